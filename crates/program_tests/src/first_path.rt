@@ -1,0 +1,104 @@
+use crate::cases::{
+    direct_roots, newest_versions, root_refusals, shelf_refusals, three_packages, words_refused,
+};
+use crate::stage::{
+    built_words, desk_of, desk_with, expect_left, none, refused, resolved, run, shelf_with,
+};
+
+#[test]
+fn direct_dependencies_are_pinned(rt: HostRuntime) {
+    let alloc = rt.alloc();
+    let shelf = three_packages(alloc).expect(&rt, "memory");
+    for case in direct_roots() {
+        let desk = desk_of(alloc, shelf.as_str(), case.manifest, &[]).expect(&rt, "memory");
+        let left = run(&rt, alloc, &built_words(), desk, &[]).expect(&rt, "memory");
+        let report = resolved(alloc, case.pins, case.turns).expect(&rt, "memory");
+        expect_left(&rt, &left, 0, report.as_str(), Some(case.lock));
+    }
+}
+
+#[test]
+fn the_newest_allowed_version_is_pinned(rt: HostRuntime) {
+    let alloc = rt.alloc();
+    for case in newest_versions() {
+        let shelf = shelf_with(alloc, &case.versions).expect(&rt, "memory");
+        let manifest = case.manifest(alloc).expect(&rt, "memory");
+        let desk = desk_of(alloc, shelf.as_str(), manifest.as_str(), &[]).expect(&rt, "memory");
+        let left = run(&rt, alloc, &built_words(), desk, &[]).expect(&rt, "memory");
+        let lock = left
+            .desk
+            .file("app/Package.resolved")
+            .expect(&rt, "no lock file");
+        let pinned = case
+            .is_pinned_in(alloc, lock.as_slice())
+            .expect(&rt, "memory");
+        assert!(rt; pinned, "{}", case.pinned);
+    }
+}
+
+#[test]
+fn other_words_are_refused(rt: HostRuntime) {
+    let alloc = rt.alloc();
+    let shelf = three_packages(alloc).expect(&rt, "memory");
+    for words in words_refused() {
+        let desk = desk_of(alloc, shelf.as_str(), none(), &[1]).expect(&rt, "memory");
+        let left = run(&rt, alloc, words, desk, &[]).expect(&rt, "memory");
+        expect_left(&rt, &left, 2, "words: not built yet\n", None);
+        assert_eq!(rt; left.desk.faults(), 0);
+    }
+}
+
+#[test]
+fn roots_are_refused(rt: HostRuntime) {
+    let alloc = rt.alloc();
+    let shelf = three_packages(alloc).expect(&rt, "memory");
+    let report = refused(alloc, "not built yet").expect(&rt, "memory");
+    for manifest in root_refusals() {
+        let desk = desk_of(alloc, shelf.as_str(), manifest, &[]).expect(&rt, "memory");
+        let left = run(&rt, alloc, &built_words(), desk, &[]).expect(&rt, "memory");
+        expect_left(&rt, &left, 3, report.as_str(), None);
+    }
+}
+
+#[test]
+fn a_missing_manifest_is_refused(rt: HostRuntime) {
+    let alloc = rt.alloc();
+    let shelf = three_packages(alloc).expect(&rt, "memory");
+    let desk = desk_with(alloc, "s.json", shelf.as_str()).expect(&rt, "memory");
+    let left = run(&rt, alloc, &built_words(), desk, &[]).expect(&rt, "memory");
+    let report = refused(alloc, "Package.json is missing").expect(&rt, "memory");
+    expect_left(&rt, &left, 3, report.as_str(), None);
+}
+
+#[test]
+fn a_lock_file_is_refused(rt: HostRuntime) {
+    let alloc = rt.alloc();
+    let shelf = three_packages(alloc).expect(&rt, "memory");
+    let mut desk = desk_of(alloc, shelf.as_str(), none(), &[]).expect(&rt, "memory");
+    desk.set("app/Package.resolved", b"x").expect(&rt, "memory");
+    let left = run(&rt, alloc, &built_words(), desk, &[]).expect(&rt, "memory");
+    let report = refused(alloc, "not built yet").expect(&rt, "memory");
+    expect_left(&rt, &left, 3, report.as_str(), Some("x"));
+}
+
+#[test]
+fn shelves_are_refused(rt: HostRuntime) {
+    let alloc = rt.alloc();
+    for case in shelf_refusals() {
+        let shelf = case.text(alloc).expect(&rt, "memory");
+        let desk = desk_of(alloc, shelf.as_str(), none(), &[]).expect(&rt, "memory");
+        let left = run(&rt, alloc, &built_words(), desk, &[]).expect(&rt, "memory");
+        assert_eq!(rt; left.status, case.status, "{}", case.start);
+        if case.status == 3 {
+            expect_left(&rt, &left, 3, "s.json: not built yet\n", None);
+        }
+    }
+}
+
+#[test]
+fn a_missing_shelf_is_refused(rt: HostRuntime) {
+    let alloc = rt.alloc();
+    let desk = desk_with(alloc, "app/Package.json", none()).expect(&rt, "memory");
+    let left = run(&rt, alloc, &built_words(), desk, &[]).expect(&rt, "memory");
+    expect_left(&rt, &left, 3, "s.json: missing\n", None);
+}

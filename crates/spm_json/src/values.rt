@@ -1,0 +1,80 @@
+ghost use Rattle.spm_json.specs.Shape.{text_of, whole_number_of};
+ghost use Rattle.spm_json.specs.Value.{identity_in, identity_reading, release_in, release_reading, tools_reading};
+ghost use Rattle.spm_json.specs.Reading.{Gives};
+
+use crate::fault::ReadFault;
+use crate::from_json::FromJson;
+use crate::shape::{text, whole_number};
+use serde_json::Value;
+use spm_ident::{IdentFault, Identity};
+use spm_version::{Kind, Release, Text, ToolsVersion, VersionFault};
+use std::alloc::Global;
+
+impl FromJson for Text {
+    ghost reading = { text_of };
+
+    fn from_json(alloc: Global, value: &Value) -> Result<Text, ReadFault> {
+        let read = text(alloc, value)?;
+        Ok(Text::from_str(alloc, read)?)
+    }
+}
+
+impl FromJson for u64 {
+    ghost reading = { whole_number_of };
+
+    fn from_json(alloc: Global, value: &Value) -> Result<u64, ReadFault> {
+        whole_number(alloc, value)
+    }
+}
+
+/// The identity that a text is, as an item or as a key.
+pub fn identity(alloc: Global, read: &str) -> Result<Identity, ReadFault>
+    ensures { Gives result (identity_in read.now) }
+{
+    match Identity::parse(alloc, read) {
+        Ok(identity) => Ok(identity),
+        Err(IdentFault::Memory) => Err(ReadFault::Memory),
+        Err(_) => Err(ReadFault::here(alloc, Kind::BadIdentity)),
+    }
+}
+
+impl FromJson for Identity {
+    ghost reading = { identity_reading };
+
+    fn from_json(alloc: Global, value: &Value) -> Result<Identity, ReadFault> {
+        let read = text(alloc, value)?;
+        identity(alloc, read)
+    }
+}
+
+/// The release that a text is, as an item or as a key.
+pub fn release(alloc: Global, read: &str) -> Result<Release, ReadFault>
+    ensures { Gives result (release_in read.now) }
+{
+    match Release::parse(alloc, read) {
+        Ok(release) => Ok(release),
+        Err(VersionFault::Memory) => Err(ReadFault::Memory),
+        Err(VersionFault::BadVersion) => Err(ReadFault::here(alloc, Kind::BadVersion)),
+    }
+}
+
+impl FromJson for Release {
+    ghost reading = { release_reading };
+
+    fn from_json(alloc: Global, value: &Value) -> Result<Release, ReadFault> {
+        let read = text(alloc, value)?;
+        release(alloc, read)
+    }
+}
+
+impl FromJson for ToolsVersion {
+    ghost reading = { tools_reading };
+
+    fn from_json(alloc: Global, value: &Value) -> Result<ToolsVersion, ReadFault> {
+        let read = text(alloc, value)?;
+        match ToolsVersion::parse(read) {
+            Some(tools) => Ok(tools),
+            None => Err(ReadFault::here(alloc, Kind::BadVersion)),
+        }
+    }
+}

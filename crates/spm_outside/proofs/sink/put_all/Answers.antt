@@ -1,0 +1,13 @@
+use Rattle.std.proofs.Common.{◌∙◌}
+use Rattle.spm_outside.proofs.PutLemmas.{within_more, written_more}
+use Rattle.spm_outside.proofs.sink.put_all.Goals as goal
+
+pub loop-done-preserved : goal.loop-done-preserved
+loop-done-preserved g c =
+    let so_far = c.loop-done.invariant in
+    let put = c.in_ok-done.ensures in
+    record {
+      within = within_more c.args.bytes.now c.loop-done.done c.in_ok-done.field-0 so_far.within put.takes.0;
+      written = written_more _ _ _ c.args.bytes.now c.loop-done.done c.in_ok-done.field-0 so_far.written put.written;
+      faults = put.faults ∙ so_far.faults;
+    }

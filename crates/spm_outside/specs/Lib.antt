@@ -1,0 +1,9 @@
+pub mod Names
+pub mod Schedule
+pub mod Faults
+pub mod Desk
+pub mod Sink
+pub mod Book
+pub mod Link
+pub mod Files
+pub mod Memory

@@ -1,0 +1,42 @@
+//! The outside of the programs as traits: files (`Desk`), output (`Sink`) and exchanges with registries (`Link`).
+//! A program is written over these, so that it runs over the system and, in a test, over objects in memory.
+//!
+//! - Each trait has meanings that an object tells or not: the files by their names, the bytes written, the book of
+//!   replies, the calls made and the bytes that are left to read. `None` is a meaning that isn't told. A clause
+//!   says what a call leaves of each meaning, by its answer (`specs/Desk.antt`, `Sink.antt` and `Link.antt`).
+//! - Each counts its faults. The count rises where a call answers `Failed`, and nowhere else, so a program whose
+//!   count is as it was had no fault.
+//! - `MemoryDesk`, `MemorySink` and `BookLink` tell all, and fail at the calls that their maker lists
+//!   (`specs/Schedule.antt`, and `specs/Memory.antt` for what they hold). `FolderDesk` and `StdSink` are the
+//!   system's, and tell nothing.
+//! - `Book` is what registries answer, as fixed replies. `Gate` orders what actors do at once, in a test.
+//!
+//! The layer above uses the traits' clauses alone, and states an outcome of the meanings that are told.
+//!
+//! Most proofs follow the definitions, which are by cases on the answer, with no file. The lemmas in `proofs/`
+//! are on the map of a tree's entries, on the bytes of several puts and on marking the last call.
+#![tactic(auto)]
+
+mod book;
+mod book_link;
+mod desk;
+mod files;
+mod folder_desk;
+mod gate;
+mod link;
+mod memory_desk;
+mod memory_sink;
+mod schedule;
+mod sink;
+mod std_sink;
+
+pub use crate::book::{Authority, Book, Entry};
+pub use crate::book_link::BookLink;
+pub use crate::desk::{Desk, DeskFault};
+pub use crate::folder_desk::FolderDesk;
+pub use crate::gate::{Gate, OpenGate};
+pub use crate::link::{Call, Link, LinkFault};
+pub use crate::memory_desk::MemoryDesk;
+pub use crate::memory_sink::MemorySink;
+pub use crate::sink::{Sink, SinkFault, put_all};
+pub use crate::std_sink::StdSink;

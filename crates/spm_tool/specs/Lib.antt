@@ -1,0 +1,9 @@
+pub mod Words
+pub mod WordsView
+pub mod Selection
+pub mod Newest
+pub mod Ending
+pub mod Course
+pub mod Phase
+pub mod Report
+pub mod Resolves

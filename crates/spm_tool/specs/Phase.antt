@@ -1,0 +1,54 @@
+-- What the steps of a root's run answer: steps that the code takes one by one.
+use Rattle.std.specs.Prelude.{◌≡◌, ℕ, List, Option, Some, None, Result, Ok, Err, ⊤}
+use Rattle.spm_shelf.specs.declared.shelf.ShelfFile.{ShelfFile}
+use Rattle.spm_tool.specs.Course.{faulty_root_file, faulty_shelf_file}
+use Rattle.spm_tool.specs.Ending.{IsShelfEnding, shelf_in}
+use Rattle.spm_tool.specs.declared.ending.ShelfEnding.{ShelfEnding}
+use Rattle.spm_tool.specs.declared.ending.RootCall.{RootCall}
+use Rattle.spm_tool.specs.declared.ending.RootCall.TheVariants.{GetManifest, GetLock, PutLock}
+use Rattle.spm_tool.specs.declared.ending.RootEnding.{RootEnding}
+use Rattle.spm_tool.specs.declared.ending.RootEnding.TheVariants.{Missing, NotBuilt, Fault, Resolved, Memory}
+
+-- the file on which a step failed
+abbrev pub faulty_in_step : {A : Type 0} → List ℕ → Result A RootEnding → Option (List ℕ)
+faulty_in_step root (Ok answer) = None
+faulty_in_step root (Err ending) = faulty_root_file root ending
+
+-- a step that comes to what `step` says, unless memory runs out or this call fails
+abbrev pub IsRefusal : {A : Type 0} → RootCall → RootEnding → Result A RootEnding → Type 0
+IsRefusal call Missing step = step ≡ Err Missing
+IsRefusal call NotBuilt step = step ≡ Err NotBuilt
+IsRefusal call (Fault failed) step = failed ≡ call
+IsRefusal call (Resolved text count) step = ⊥
+IsRefusal call Memory step = Unit {0}
+
+abbrev pub Steps : {A : Type 0} → RootCall → Result A RootEnding → Result A RootEnding → Type 0
+Steps call (Ok answer) step = step ≡ Ok answer
+Steps call (Err ending) step = IsRefusal call ending step
+
+-- a step without a call comes to what `step` says, unless memory runs out
+abbrev pub Computes : {A : Type 0} → Result A RootEnding → Result A RootEnding → Type 0
+Computes (Ok answer) step = step ≡ Ok answer
+Computes (Err Missing) step = step ≡ Err Missing
+Computes (Err NotBuilt) step = step ≡ Err NotBuilt
+Computes (Err (Fault call)) step = ⊥
+Computes (Err (Resolved text count)) step = ⊥
+Computes (Err Memory) step = Unit {0}
+
+-- the put of the lock file: the text and the number of its pins
+abbrev pub IsPutEnding : List ℕ → ℕ → RootEnding → Type 0
+IsPutEnding text count Missing = ⊥
+IsPutEnding text count NotBuilt = ⊥
+IsPutEnding text count (Fault call) = call ≡ PutLock
+IsPutEnding text count (Resolved put pins) = (put ≡ text) × (pins ≡ count)
+IsPutEnding text count Memory = Unit {0}
+
+-- the get of the shelf
+abbrev pub ReadsShelf : Result ShelfFile ShelfEnding → Option (List ℕ) → Type 0
+ReadsShelf (Ok found) content = shelf_in content ≡ Ok found
+ReadsShelf (Err ending) content = IsShelfEnding content ending
+
+-- the shelf's file, where the desk failed at it
+abbrev pub faulty_shelf : List ℕ → Result ShelfFile ShelfEnding → Option (List ℕ)
+faulty_shelf name (Ok found) = None
+faulty_shelf name (Err ending) = faulty_shelf_file name ending

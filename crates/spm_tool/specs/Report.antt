@@ -1,0 +1,78 @@
+-- The lines that a run writes, and its exit status: functions of the ending.
+use Rattle.std.specs.Prelude.{ℕ, ◌+◌, ◌*◌, ◌==◌, List, [], ◌∷◌, ◌++◌, codes, Result, Ok, Err, ⊤, if◌then◌else◌}
+use Rattle.std.specs.Fmt.{decimal}
+use Rattle.spm_outside.specs.declared.sink.SinkFault.{SinkFault}
+use Rattle.spm_outside.specs.declared.sink.SinkFault.TheVariants as sink
+use Rattle.spm_tool.specs.Course.{file_of_call}
+use Rattle.spm_tool.specs.Words.{Order}
+use Rattle.spm_tool.specs.declared.ending.Ending.{Ending}
+use Rattle.spm_tool.specs.declared.ending.Ending.TheVariants as run
+use Rattle.spm_tool.specs.declared.ending.ShelfEnding.{ShelfEnding}
+use Rattle.spm_tool.specs.declared.ending.ShelfEnding.TheVariants as shelf
+use Rattle.spm_tool.specs.declared.ending.RootEnding.{RootEnding}
+use Rattle.spm_tool.specs.declared.ending.RootEnding.TheVariants.{Missing, NotBuilt, Fault, Resolved, Memory}
+
+-- a line feed
+abbrev pub line_end : List ℕ
+line_end = 10 ∷ []
+
+-- the turns of the plain solver for so many dependencies
+abbrev pub turns_of : ℕ → ℕ
+turns_of count = 4 + 6 * count
+
+-- what a root's line says behind `ROOT: `
+abbrev pub root_text : List ℕ → RootEnding → List ℕ
+root_text root Missing = codes "Package.json is missing"
+root_text root NotBuilt = codes "not built yet"
+root_text root (Fault call) = file_of_call root call ++ codes ": file fault"
+root_text root (Resolved text count) = codes "resolved " ++ (decimal count ++ (codes " in " ++ (decimal (turns_of count) ++ codes " turns")))
+root_text root Memory = codes "no memory"
+
+-- the last line: how many roots ended in which way
+abbrev pub summary_text : RootEnding → List ℕ
+summary_text Missing = codes "roots 1: resolved 0, refuted 0, refused 1, faulty 0, differing 0, cancelled 0, memory 0"
+summary_text NotBuilt = codes "roots 1: resolved 0, refuted 0, refused 1, faulty 0, differing 0, cancelled 0, memory 0"
+summary_text (Fault call) = codes "roots 1: resolved 0, refuted 0, refused 0, faulty 1, differing 0, cancelled 0, memory 0"
+summary_text (Resolved text count) = codes "roots 1: resolved 1, refuted 0, refused 0, faulty 0, differing 0, cancelled 0, memory 0"
+summary_text Memory = codes "roots 1: resolved 0, refuted 0, refused 0, faulty 0, differing 0, cancelled 0, memory 1"
+
+abbrev pub root_report : List ℕ → RootEnding → List ℕ
+root_report root ending = root ++ (codes ": " ++ (root_text root ending ++ (line_end ++ (summary_text ending ++ line_end))))
+
+abbrev pub words_report : List ℕ
+words_report = codes "words: not built yet" ++ line_end
+
+-- the one line of a run without a shelf; nothing where memory ran out
+abbrev pub shelf_report : List ℕ → ShelfEnding → List ℕ
+shelf_report name shelf.Missing = name ++ (codes ": missing" ++ line_end)
+shelf_report name shelf.NotBuilt = name ++ (codes ": not built yet" ++ line_end)
+shelf_report name shelf.Fault = name ++ (codes ": file fault" ++ line_end)
+shelf_report name shelf.Memory = []
+
+abbrev pub report_of : Order → Ending → List ℕ
+report_of order (run.Shelf ending) = shelf_report order.shelf ending
+report_of order (run.Root ending) = root_report order.root ending
+
+abbrev pub root_status : RootEnding → ℕ
+root_status Missing = 3
+root_status NotBuilt = 3
+root_status (Fault call) = 4
+root_status (Resolved text count) = 0
+root_status Memory = 6
+
+abbrev pub shelf_status : ShelfEnding → ℕ
+shelf_status shelf.Missing = 3
+shelf_status shelf.NotBuilt = 3
+shelf_status shelf.Fault = 4
+shelf_status shelf.Memory = 6
+
+abbrev pub status_of : Ending → ℕ
+status_of (run.Shelf ending) = shelf_status ending
+status_of (run.Root ending) = root_status ending
+
+-- The exit status, with what the sink answered: refused words are 2 in any case; else the first of 6, 4, 3, 0
+-- that the ending or the sink gives.
+abbrev pub status_after : ℕ → Result ⊤ SinkFault → ℕ
+status_after status (Ok nothing) = status
+status_after status (Err sink.Failed) = if status == 2 then 2 else if status == 6 then 6 else 4
+status_after status (Err sink.Memory) = if status == 2 then 2 else 6

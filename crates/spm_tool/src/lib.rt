@@ -1,0 +1,30 @@
+//! The top call of the program: from the words to the files, the report and the exit status.
+//!
+//! The contract that `main` uses is the clause `run` of [`resolve`], which is `Resolves` of
+//! `specs/Resolves.antt`: the words decide whether anything is done (`order_of`); the bytes of the
+//! files decide how the run ends (`IsEnding`, by `root_ending` and `shelf_in`); the ending decides the
+//! files afterwards, the report and the status (`FilesLeft`, `report_of`, `status_of`). A fault of the
+//! desk or the sink is answered only where its count of faults rose, and want of memory is free.
+//!
+//! What is chosen is a private part of this crate (`specs/Selection.antt`): of each direct dependency
+//! the newest release that its requirement contains. [`newest_is_above_all`] says what newest means.
+//!
+//! The proof goes by steps: the get of the shelf, of the manifest and of the lock file, the selection
+//! and the put are functions of their own, each of which says what it comes to (`specs/Phase.antt`), what
+//! it leaves at the desk, and on which file it failed. The loops keep that what is left comes to what
+//! the whole does; `proofs/Newest.antt` has the law of the order, `proofs/Tell.antt` the case where no
+//! report could be made.
+#![tactic(auto)]
+
+mod ending;
+mod manifest;
+mod report;
+mod root;
+mod selection;
+mod shelf;
+mod top;
+mod words;
+
+pub use ending::{Ending, RootCall, RootEnding, ShelfEnding};
+pub use selection::newest_is_above_all;
+pub use top::resolve;
