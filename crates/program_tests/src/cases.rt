@@ -4,6 +4,12 @@ use crate::stage::{leaf, package_of, shelf_of};
 use spm_version::NoMemory;
 use std::alloc::Global;
 
+/// What a root needs: packages, each with its requirement.
+pub type Needs = &'static [(&'static str, &'static str)];
+
+/// From 1.0.0 up to 2.0.0.
+const FROM_ONE: &str = r#"{"range":[{"lowerBound":"1.0.0","upperBound":"2.0.0"}]}"#;
+
 /// A root that is resolved against the three packages. The sums come from another program.
 #[derive(Clone, Copy)]
 pub struct Direct {
@@ -81,8 +87,11 @@ fn new_tools() -> &'static str {
     r#"{\"name\":\"new\",\"toolsVersion\":{\"_version\":\"6.1.1\"}}"#
 }
 
-/// A shelf with mona.LinkedList, Mona.Other, and packages that can't be chosen: one whose newest version has a dependency,
-/// one that needs newer tools, one whose manifest is none.
+fn with_trait() -> &'static str {
+    r#"{\"name\":\"optional\",\"traits\":[{\"name\":\"x\"}],\"toolsVersion\":{\"_version\":\"5.9.0\"}}"#
+}
+
+/// A shelf with mona.LinkedList, Mona.Other, and packages whose newest version isn't built yet (`unbuilt_packages`).
 pub fn three_packages(alloc: Global) -> Result<String, NoMemory> {
     let list = package_of(
         alloc,
@@ -97,10 +106,23 @@ pub fn three_packages(alloc: Global) -> Result<String, NoMemory> {
     )?;
     let tools = package_of(alloc, "mona.tools", &[("1.0.0", new_tools())])?;
     let garbled = package_of(alloc, "mona.garbled", &[("1.0.0", "{")])?;
+    let traits = package_of(alloc, "mona.traits", &[("1.0.0", with_trait())])?;
     shelf_of(
         alloc,
-        format!(in alloc; "{list},{other},{needs},{tools},{garbled}")?.as_str(),
+        format!(in alloc; "{list},{other},{needs},{tools},{garbled},{traits}")?.as_str(),
     )
+}
+
+/// Packages whose newest version has a dependency, needs newer tools, has a manifest that is none, declares a trait; and one of
+/// them beside what can be chosen.
+pub fn unbuilt_packages() -> [Needs; 5] {
+    [
+        &[("mona.needs", FROM_ONE)],
+        &[("mona.tools", FROM_ONE)],
+        &[("mona.garbled", FROM_ONE)],
+        &[("mona.traits", r#"{"exact":["1.0.0"]}"#)],
+        &[("mona.LinkedList", FROM_ONE), ("mona.needs", FROM_ONE)],
+    ]
 }
 
 /// Bounds, the versions on the shelf, and the one that is pinned.
@@ -119,15 +141,6 @@ impl Newest {
         Ok(format!(in alloc;
             r#"{{"name":"app","dependencies":[{{"registry":[{{"identity":"mona.LinkedList","requirement":{{"range":[{{"lowerBound":"{lower}","upperBound":"{upper}"}}]}}}}]}}],"toolsVersion":{{"_version":"5.9.0"}}}}"#
         )?)
-    }
-
-    /// Whether the lock file pins the version.
-    pub fn is_pinned_in(&self, alloc: Global, lock: &[u8]) -> Result<bool, NoMemory> {
-        let line = format!(in alloc; "\"version\" : \"{}\"\n", self.pinned)?;
-        match str::from_utf8(lock) {
-            Ok(text) => Ok(text.contains(line.as_str())),
-            Err(_) => Ok(false),
-        }
     }
 }
 
@@ -185,21 +198,211 @@ pub fn words_refused() -> [&'static [&'static str]; 13] {
     ]
 }
 
-/// Manifests that aren't built: no dump, newer tools, a package that isn't on the shelf, no version in the range, one package
-/// twice, a chosen version with a dependency, with newer tools, with no manifest, and what isn't read yet.
-pub fn root_refusals() -> [&'static str; 11] {
+/// Members of a root's manifest, and the version of mona.LinkedList that is pinned: exact requirements, and what is there but
+/// asks for nothing that isn't built yet.
+pub fn chosen_versions() -> [(&'static str, &'static str); 8] {
     [
-        "",
-        "[]",
-        r#"{"name":"app","toolsVersion":{"_version":"6.1.1"}}"#,
-        r#"{"name":"app","dependencies":[{"registry":[{"identity":"mona.none","requirement":{"range":[{"lowerBound":"1.0.0","upperBound":"2.0.0"}]}}]}],"toolsVersion":{"_version":"5.9.0"}}"#,
-        r#"{"name":"app","dependencies":[{"registry":[{"identity":"mona.LinkedList","requirement":{"range":[{"lowerBound":"3.0.0","upperBound":"4.0.0"}]}}]}],"toolsVersion":{"_version":"5.9.0"}}"#,
-        r#"{"name":"app","dependencies":[{"registry":[{"identity":"mona.LinkedList","requirement":{"range":[{"lowerBound":"1.0.0","upperBound":"1.1.0"}]}}]},{"registry":[{"identity":"MONA.LINKEDLIST","requirement":{"range":[{"lowerBound":"1.0.0","upperBound":"1.1.0"}]}}]}],"toolsVersion":{"_version":"5.9.0"}}"#,
-        r#"{"name":"app","dependencies":[{"registry":[{"identity":"mona.needs","requirement":{"range":[{"lowerBound":"1.0.0","upperBound":"2.0.0"}]}}]}],"toolsVersion":{"_version":"5.9.0"}}"#,
-        r#"{"name":"app","dependencies":[{"registry":[{"identity":"mona.tools","requirement":{"range":[{"lowerBound":"1.0.0","upperBound":"1.1.0"}]}}]}],"toolsVersion":{"_version":"5.9.0"}}"#,
-        r#"{"name":"app","dependencies":[{"registry":[{"identity":"mona.garbled","requirement":{"range":[{"lowerBound":"1.0.0","upperBound":"1.1.0"}]}}]}],"toolsVersion":{"_version":"5.9.0"}}"#,
-        r#"{"name":"app","dependencies":[{"registry":[{"identity":"mona.LinkedList","requirement":{"exact":["1.0.0"]}}]}],"toolsVersion":{"_version":"5.9.0"}}"#,
-        r#"{"name":"app","targets":[{"name":"App"}],"toolsVersion":{"_version":"5.9.0"}}"#,
+        (
+            r#""dependencies":[{"registry":[{"identity":"mona.LinkedList","requirement":{"exact":["1.0.0"]}}]}]"#,
+            "1.0.0",
+        ),
+        (
+            r#""dependencies":[{"registry":[{"identity":"MONA.linkedlist","requirement":{"exact":["2.0.0"]}}]}]"#,
+            "2.0.0",
+        ),
+        (
+            r#""traits":[],"dependencies":[{"registry":[{"identity":"mona.LinkedList","requirement":{"range":[{"lowerBound":"1.0.0","upperBound":"2.0.0"}]}}]}]"#,
+            "1.1.0",
+        ),
+        (
+            r#""dependencies":[{"registry":[{"identity":"mona.LinkedList","requirement":{"range":[{"lowerBound":"1.0.0","upperBound":"2.0.0"}]},"traits":null}]}]"#,
+            "1.1.0",
+        ),
+        (
+            r#""dependencies":[{"registry":[{"identity":"mona.LinkedList","requirement":{"range":[{"lowerBound":"1.0.0","upperBound":"2.0.0"}]},"traits":[{"name":"default"}]}]}]"#,
+            "1.1.0",
+        ),
+        (
+            r#""dependencies":[{"registry":[{"identity":"mona.LinkedList","requirement":{"range":[{"lowerBound":"1.0.0","upperBound":"2.0.0"}]},"traits":[{"name":"default","condition":{"traits":[]}}]}]}]"#,
+            "1.1.0",
+        ),
+        (
+            r#""dependencies":[{"registry":[{"identity":"mona.LinkedList","requirement":{"range":[{"lowerBound":"1.0.0","upperBound":"2.0.0"}]}}]}],"targets":[{"name":"App","dependencies":[{"product":["L","mona.linkedlist"]}]}]"#,
+            "1.1.0",
+        ),
+        (
+            r#""dependencies":[{"registry":[{"identity":"mona.LinkedList","requirement":{"range":[{"lowerBound":"1.0.0","upperBound":"2.0.0"}]}}]}],"targets":[{"dependencies":[{"product":["L","mona.linkedlist",null,{"traits":["X"]}]},{"byName":["mona.linkedlist"]}]}]"#,
+            "1.1.0",
+        ),
+    ]
+}
+
+/// Manifests that are unreadable or need newer tools, also where they have what isn't built yet, and the root's line.
+pub fn manifests_refused() -> [(&'static str, &'static str); 7] {
+    [
+        ("", "Package.json is unreadable at /: not JSON"),
+        ("[]", "Package.json is unreadable at /: wrong kind"),
+        ("{}", "Package.json is unreadable at /name: missing"),
+        (
+            r#"{"name":"app","toolsVersion":{"_version":"6.1.1"},"traits":[{"name":"x"},{"name":"x"}]}"#,
+            "Package.json is unreadable at /traits/1/name: doubled",
+        ),
+        (
+            r#"{"name":"app","toolsVersion":{"_version":"6.1.1"},"dependencies":[{"registry":[{"identity":"a.b","requirement":{"range":[{"lowerBound":"1.0","upperBound":"2.0.0"}]}}]}]}"#,
+            "Package.json is unreadable at /dependencies/0/registry/0/requirement/range/0/lowerBound: bad version",
+        ),
+        (
+            r#"{"name":"app","toolsVersion":{"_version":"6.1.1"}}"#,
+            "Package.json needs tools 6.1.1, running 6.1.0",
+        ),
+        (
+            r#"{"name":"app","toolsVersion":{"_version":"7.0.0"},"traits":[{"name":"x"}]}"#,
+            "Package.json needs tools 7.0.0, running 6.1.0",
+        ),
+    ]
+}
+
+/// Members of a root's manifest that aren't built yet: a trait, one package twice, also in another case and where none of
+/// its versions will do, a repository, a folder, other traits than the default ones, a guard.
+pub fn unbuilt_members() -> [&'static str; 11] {
+    [
+        r#""traits":[{"name":"x"}]"#,
+        r#""dependencies":[{"registry":[{"identity":"mona.LinkedList","requirement":{"exact":["1.0.0"]}}]},{"registry":[{"identity":"mona.LinkedList","requirement":{"exact":["1.0.0"]}}]}]"#,
+        r#""dependencies":[{"registry":[{"identity":"mona.none","requirement":{"exact":["1.0.0"]}}]},{"registry":[{"identity":"MONA.NONE","requirement":{"exact":["2.0.0"]}}]}]"#,
+        r#""dependencies":[{"sourceControl":[{"identity":"linkedlist","location":{"remote":["https://example.com/mona/LinkedList"]},"requirement":{"exact":["1.0.0"]}}]}]"#,
+        r#""dependencies":[{"fileSystem":[{"identity":"linkedlist","path":"/linkedlist"}]}]"#,
+        r#""dependencies":[{"registry":[{"identity":"mona.LinkedList","requirement":{"exact":["1.0.0"]},"traits":[]}]}]"#,
+        r#""dependencies":[{"registry":[{"identity":"mona.LinkedList","requirement":{"exact":["1.0.0"]},"traits":[{"name":"X"}]}]}]"#,
+        r#""dependencies":[{"registry":[{"identity":"mona.LinkedList","requirement":{"exact":["1.0.0"]},"traits":[{"name":"default"},{"name":"X"}]}]}]"#,
+        r#""dependencies":[{"registry":[{"identity":"mona.LinkedList","requirement":{"exact":["1.0.0"]},"traits":[{"name":"default","condition":{"traits":["X"]}}]}]}]"#,
+        r#""dependencies":[{"registry":[{"identity":"mona.LinkedList","requirement":{"exact":["1.0.0"]}}]}],"targets":[{"dependencies":[{"product":["L","mona.linkedlist",null,{"traits":["X"]}]}]}]"#,
+        r#""dependencies":[{"registry":[{"identity":"mona.LinkedList","requirement":{"exact":["1.0.0"]}}]}],"targets":[{"dependencies":[{"byName":["Other",{"traits":["X"]}]}]}]"#,
+    ]
+}
+
+/// What a root needs, of which the derivation names one.
+#[derive(Clone, Copy)]
+pub struct Unmet {
+    pub needs: Needs,
+    pub named: &'static str,
+}
+
+/// A package that isn't on the shelf, versions that aren't there, an empty range; of two such the last one; beside what can be
+/// chosen, and beside a version that isn't built yet.
+pub fn unmet_needs() -> [Unmet; 7] {
+    [
+        Unmet {
+            needs: &[("mona.none", FROM_ONE)],
+            named: "mona.none 1.0.0..<2.0.0",
+        },
+        Unmet {
+            needs: &[("mona.LinkedList", r#"{"exact":["9.0.0"]}"#)],
+            named: "mona.linkedlist exactly 9.0.0",
+        },
+        Unmet {
+            needs: &[(
+                "mona.LinkedList",
+                r#"{"range":[{"lowerBound":"3.0.0-rc.1","upperBound":"4.0.0"}]}"#,
+            )],
+            named: "mona.linkedlist 3.0.0-rc.1..<4.0.0",
+        },
+        Unmet {
+            needs: &[(
+                "mona.LinkedList",
+                r#"{"range":[{"lowerBound":"2.0.0","upperBound":"1.0.0"}]}"#,
+            )],
+            named: "mona.linkedlist 2.0.0..<1.0.0",
+        },
+        Unmet {
+            needs: &[
+                ("mona.none", FROM_ONE),
+                ("mona.absent", r#"{"exact":["1.0.0+x"]}"#),
+            ],
+            named: "mona.absent exactly 1.0.0+x",
+        },
+        Unmet {
+            needs: &[("mona.none", FROM_ONE), ("mona.LinkedList", FROM_ONE)],
+            named: "mona.none 1.0.0..<2.0.0",
+        },
+        Unmet {
+            needs: &[("mona.garbled", FROM_ONE), ("mona.none", FROM_ONE)],
+            named: "mona.none 1.0.0..<2.0.0",
+        },
+    ]
+}
+
+/// Pins of a lock file, and the version of mona.LinkedList that is pinned after a run of a root that needs it from 1.0.0 up
+/// to 2.0.0. A pin stays where it is in the range and on the shelf.
+pub fn kept_pins() -> [(&'static str, &'static str); 9] {
+    [
+        ("", "1.1.0"),
+        (
+            r#"{"identity":"mona.linkedlist","kind":"registry","location":"","state":{"version":"1.0.0"}}"#,
+            "1.0.0",
+        ),
+        (
+            r#"{"identity":"Mona.LinkedList","kind":"registry","location":"","state":{"version":"1.0.0"}}"#,
+            "1.0.0",
+        ),
+        (
+            r#"{"identity":"mona.other","kind":"registry","location":"","state":{"version":"1.1.0"}},{"identity":"mona.linkedlist","kind":"registry","location":"","state":{"version":"1.0.0"}}"#,
+            "1.0.0",
+        ),
+        (
+            r#"{"identity":"mona.linkedlist","kind":"registry","location":"","state":{"version":"2.0.0"}}"#,
+            "1.1.0",
+        ),
+        (
+            r#"{"identity":"mona.linkedlist","kind":"registry","location":"","state":{"version":"1.0.5"}}"#,
+            "1.1.0",
+        ),
+        (
+            r#"{"identity":"mona.linkedlist","kind":"registry","location":"","state":{"version":"1.0.0+x"}}"#,
+            "1.1.0",
+        ),
+        (
+            r#"{"identity":"mona.other","kind":"registry","location":"","state":{"version":"1.0.0"}}"#,
+            "1.1.0",
+        ),
+        (
+            r#"{"identity":"mona.linkedlist","kind":"remoteSourceControl","location":"","state":{"version":"1.0.0"}}"#,
+            "1.1.0",
+        ),
+    ]
+}
+
+/// The lock file of the root with one dependency, with this version. The sum comes from another program.
+pub fn lock_of_one(alloc: Global, version: &str) -> Result<String, NoMemory> {
+    Ok(format!(in alloc;
+        r#"{{
+  "originHash" : "4c0e9e7750f69dc3064a8eda4df79a673f1a1a90787223b62fb4b33669c14d83",
+  "pins" : [
+    {{
+      "identity" : "mona.linkedlist",
+      "kind" : "registry",
+      "location" : "",
+      "state" : {{
+        "version" : "{version}"
+      }}
+    }}
+  ],
+  "version" : 3
+}}
+"#
+    )?)
+}
+
+/// Lock files that are none, and the place and the kind of their first fault.
+pub fn lock_refusals() -> [(&'static str, &'static str); 5] {
+    [
+        ("", "/: not JSON"),
+        (r#"{"pins":[],"version":4}"#, "/version: bad version"),
+        (r#"{"pins":[],"version":2}"#, "/version: bad version"),
+        (r#"{"version":3}"#, "/pins: missing"),
+        (
+            r#"{"pins":[{"identity":"mona.linkedlist","kind":"registry","location":"","state":{"version":"1.0.0"}},{"identity":"mona.LinkedList","kind":"registry","location":"","state":{"version":"1.1.0"}}],"version":3}"#,
+            "/pins/1/identity: doubled",
+        ),
     ]
 }
 

@@ -1,8 +1,9 @@
 use crate::cases::{
-    direct_roots, newest_versions, root_refusals, shelf_refusals, three_packages, words_refused,
+    chosen_versions, direct_roots, newest_versions, shelf_refusals, three_packages, words_refused,
 };
 use crate::stage::{
-    built_words, desk_of, desk_with, expect_left, none, refused, resolved, run, shelf_with,
+    built_words, desk_of, desk_with, expect_left, expect_pinned, manifest_with, none, refused,
+    resolved, run, shelf_with,
 };
 
 #[test]
@@ -25,14 +26,20 @@ fn the_newest_allowed_version_is_pinned(rt: HostRuntime) {
         let manifest = case.manifest(alloc).expect(&rt, "memory");
         let desk = desk_of(alloc, shelf.as_str(), manifest.as_str(), &[]).expect(&rt, "memory");
         let left = run(&rt, alloc, &built_words(), desk, &[]).expect(&rt, "memory");
-        let lock = left
-            .desk
-            .file("app/Package.resolved")
-            .expect(&rt, "no lock file");
-        let pinned = case
-            .is_pinned_in(alloc, lock.as_slice())
-            .expect(&rt, "memory");
-        assert!(rt; pinned, "{}", case.pinned);
+        expect_pinned(&rt, alloc, &left, case.pinned);
+    }
+}
+
+#[test]
+fn the_required_version_is_pinned(rt: HostRuntime) {
+    let alloc = rt.alloc();
+    let shelf = three_packages(alloc).expect(&rt, "memory");
+    for (members, version) in chosen_versions() {
+        let manifest = manifest_with(alloc, members).expect(&rt, "memory");
+        let desk = desk_of(alloc, shelf.as_str(), manifest.as_str(), &[]).expect(&rt, "memory");
+        let left = run(&rt, alloc, &built_words(), desk, &[]).expect(&rt, "memory");
+        assert_eq!(rt; left.status, 0, "{members}");
+        expect_pinned(&rt, alloc, &left, version);
     }
 }
 
@@ -49,18 +56,6 @@ fn other_words_are_refused(rt: HostRuntime) {
 }
 
 #[test]
-fn roots_are_refused(rt: HostRuntime) {
-    let alloc = rt.alloc();
-    let shelf = three_packages(alloc).expect(&rt, "memory");
-    let report = refused(alloc, "not built yet").expect(&rt, "memory");
-    for manifest in root_refusals() {
-        let desk = desk_of(alloc, shelf.as_str(), manifest, &[]).expect(&rt, "memory");
-        let left = run(&rt, alloc, &built_words(), desk, &[]).expect(&rt, "memory");
-        expect_left(&rt, &left, 3, report.as_str(), None);
-    }
-}
-
-#[test]
 fn a_missing_manifest_is_refused(rt: HostRuntime) {
     let alloc = rt.alloc();
     let shelf = three_packages(alloc).expect(&rt, "memory");
@@ -68,17 +63,6 @@ fn a_missing_manifest_is_refused(rt: HostRuntime) {
     let left = run(&rt, alloc, &built_words(), desk, &[]).expect(&rt, "memory");
     let report = refused(alloc, "Package.json is missing").expect(&rt, "memory");
     expect_left(&rt, &left, 3, report.as_str(), None);
-}
-
-#[test]
-fn a_lock_file_is_refused(rt: HostRuntime) {
-    let alloc = rt.alloc();
-    let shelf = three_packages(alloc).expect(&rt, "memory");
-    let mut desk = desk_of(alloc, shelf.as_str(), none(), &[]).expect(&rt, "memory");
-    desk.set("app/Package.resolved", b"x").expect(&rt, "memory");
-    let left = run(&rt, alloc, &built_words(), desk, &[]).expect(&rt, "memory");
-    let report = refused(alloc, "not built yet").expect(&rt, "memory");
-    expect_left(&rt, &left, 3, report.as_str(), Some("x"));
 }
 
 #[test]

@@ -12,6 +12,10 @@ mod first_path;
 #[cfg(test)]
 mod hostile;
 #[cfg(test)]
+mod lock_files;
+#[cfg(test)]
+mod refusals;
+#[cfg(test)]
 mod stage;
 #[cfg(test)]
 mod system;

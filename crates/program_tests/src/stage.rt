@@ -49,6 +49,17 @@ pub fn expect_left(rt: &impl Abort, left: &Left, status: u8, report: &str, lock:
     }
 }
 
+/// Asserts that the lock file that a run left pins this version.
+pub fn expect_pinned(rt: &impl Abort, alloc: Global, left: &Left, version: &str) {
+    let lock = left
+        .desk
+        .file("app/Package.resolved")
+        .expect(rt, "a lock file");
+    let line = format!(in alloc; "\"version\" : \"{version}\"\n").expect(rt, "memory");
+    let text = str::from_utf8(lock.as_slice()).expect(rt, "a text");
+    assert!(rt; text.contains(line.as_str()), "{version}");
+}
+
 /// What a run left.
 #[derive(Drop)]
 pub struct Left {
@@ -68,6 +79,38 @@ pub fn desk_of(
     desk.set("s.json", shelf.as_bytes())?;
     desk.set("app/Package.json", manifest.as_bytes())?;
     Ok(desk)
+}
+
+/// A desk with a shelf, a root's manifest and its lock file, whose calls with these numbers fail.
+pub fn locked_desk(
+    alloc: Global,
+    shelf: &str,
+    manifest: &str,
+    lock: &str,
+    failing: &[u64],
+) -> Result<MemoryDesk, NoMemory> {
+    let mut desk = desk_of(alloc, shelf, manifest, failing)?;
+    desk.set("app/Package.resolved", lock.as_bytes())?;
+    Ok(desk)
+}
+
+/// A root's manifest with these members.
+pub fn manifest_with(alloc: Global, members: &str) -> Result<String, NoMemory> {
+    Ok(format!(in alloc; r#"{{"name":"app",{members},"toolsVersion":{{"_version":"5.9.0"}}}}"#)?)
+}
+
+/// A root's manifest that needs these packages, each with its requirement.
+pub fn manifest_needing(alloc: Global, needs: &[(&str, &str)]) -> Result<String, NoMemory> {
+    let mut list = String::new(alloc);
+    for (index, (identity, requirement)) in needs.iter().enumerate() {
+        let comma = if index == 0 { "" } else { "," };
+        write!(
+            list,
+            r#"{comma}{{"registry":[{{"identity":"{identity}","requirement":{requirement}}}]}}"#
+        )?;
+    }
+    let members = format!(in alloc; r#""dependencies":[{list}]"#)?;
+    manifest_with(alloc, members.as_str())
 }
 
 /// A desk with one file.
@@ -151,6 +194,13 @@ pub fn package_of(
 pub fn refused(alloc: Global, line: &str) -> Result<String, NoMemory> {
     Ok(format!(in alloc;
         "app: {line}\nroots 1: resolved 0, refuted 0, refused 1, faulty 0, differing 0, cancelled 0, memory 0\n"
+    )?)
+}
+
+/// The report on a root that has no selection, by what it needs.
+pub fn refuted(alloc: Global, need: &str) -> Result<String, NoMemory> {
+    Ok(format!(in alloc;
+        "app: no selection in 1 turns\n1. root needs {need}: [root chosen]\nSo no selection exists.\nroots 1: resolved 0, refuted 1, refused 0, faulty 0, differing 0, cancelled 0, memory 0\n"
     )?)
 }
 

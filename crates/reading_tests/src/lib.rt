@@ -4,7 +4,7 @@
 //!
 //! What holds of every input is a clause there. Here are
 //!
-//! - values from outside: the refusals of JSON (RFC 8259), dumps as SwiftPM writes them, shelf files with the place
+//! - values from outside: the refusals of JSON (RFC 8259), dumps as SwiftPM writes them, shelf files and lock files with the place
 //!   and the kind of their first fault, `Package.resolved` byte by byte, and NIST's sums of SHA-256;
 //! - one run of each call that can answer want of memory, where there is memory;
 //! - the printed texts.

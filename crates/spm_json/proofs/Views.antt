@@ -1,9 +1,9 @@
 -- Lists and objects of the code, as the lists of data that readings go over.
-use Rattle.std.proofs.Common.{◌≡◌, ℕ, List, [], ◌∷◌, map, Some, Ok, String, string_bytes, refl, ap, ◌∙◌, sym}
+use Rattle.std.proofs.Common.{◌≡◌, ℕ, List, [], ◌∷◌, Some, Ok, String, string_bytes, refl, ap}
 use Rattle.std.specs.declared.alloc.Global.{Global}
 use Rattle.serde_json.specs.Data.{Data}
-use Rattle.serde_json.specs.Find.{as_array, as_object}
-use Rattle.serde_json.specs.View.{items_of, members_of, members_view, view}
+use Rattle.serde_json.specs.Find.{as_array}
+use Rattle.serde_json.specs.View.{items_of, members_view, view}
 use Rattle.serde_json.specs.declared.value.Value.{Value}
 use Rattle.spm_json.specs.Shape.{item_list, list_of, member_list}
 

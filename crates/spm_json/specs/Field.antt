@@ -1,5 +1,5 @@
 -- The members of an object. `null` counts as absent only where a member is optional.
-use Rattle.std.specs.Prelude.{ℕ, List, Option, Some, None, Ok, Err, Bool, true, false}
+use Rattle.std.specs.Prelude.{ℕ, List, Option, Some, None, Ok, Err}
 use Rattle.serde_json.specs.Data.{Data, null, boolean, number, string, array, object}
 use Rattle.serde_json.specs.Find.{get}
 use Rattle.spm_version.specs.declared.kind.Kind.TheVariants.{Missing}

@@ -5,3 +5,4 @@ pub mod Field
 pub mod Object
 pub mod Sequence
 pub mod Value
+pub mod Names

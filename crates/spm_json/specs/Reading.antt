@@ -55,11 +55,12 @@ abbrev pub place_text : List ℕ → List ℕ
 place_text [] = 47 ∷ []
 place_text (byte ∷ path) = byte ∷ path
 
--- what a function answered is what the reading gives, unless memory ran out
-abbrev pub FaultIs : ReadFault → Fault → Type 0
-FaultIs (At place kind) fault = fault ≡ record { place = place; kind = kind }
-FaultIs Memory fault = Unit {0}
+-- the reading of a document, with places from its root
+abbrev pub in_document : {A : Type 0} → Reading A → Reading A
+in_document (Ok x) = Ok x
+in_document (Err fault) = Err (record { place = place_text fault.place; kind = fault.kind })
 
+-- what a function answered is what the reading gives, unless memory ran out
 abbrev pub Fails : {A : Type 0} → ReadFault → Reading A → Type 0
 Fails (At place kind) reading = reading ≡ Err (record { place = place; kind = kind })
 Fails Memory reading = Unit {0}

@@ -1,6 +1,6 @@
 -- Lists from the front, and the members of an object under foreign keys in byte order. Each reading of
 -- a member knows the members that were read before it, as a test for doubled names needs.
-use Rattle.std.specs.Prelude.{ℕ, List, [], ◌∷◌, ◌++◌, length, Ok, Err}
+use Rattle.std.specs.Prelude.{ℕ, List, [], ◌∷◌, ◌++◌, length, Ok}
 use Rattle.serde_json.specs.Data.{Data}
 use Rattle.serde_json.specs.Find.{as_object}
 use Rattle.spm_version.specs.declared.kind.Kind.TheVariants.{WrongKind}

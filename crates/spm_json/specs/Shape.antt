@@ -1,12 +1,12 @@
 -- What an item has to be: an object, a list, a text, a number. An item of another shape is of the wrong
 -- kind. Objects have each key once, in byte order, the last value of a key that was written twice.
-use Rattle.std.specs.Prelude.{ℕ, ◌==◌, List, [], ◌∷◌, length, nat_lt, Option, Some, None, Ok, Err, if◌then◌else◌, option_and_then, option_map}
+use Rattle.std.specs.Prelude.{ℕ, List, [], ◌∷◌, length, nat_lt, Ok, if◌then◌else◌, option_and_then, option_map}
 use Rattle.std.specs.Str.{is_utf8}
 use Rattle.serde_json.specs.Data.{Data, Items, no_items, item, Members, no_members, member}
 use Rattle.serde_json.specs.Find.{as_array, as_number, as_object, as_str, as_u64}
 use Rattle.serde_json.specs.Read.{read}
-use Rattle.spm_version.specs.declared.kind.Kind.TheVariants.{NotJson, TooMany, WrongKind, BadVersion}
-use Rattle.spm_json.specs.Reading.{Reading, fault_here, or_fault, ◌>>=◌}
+use Rattle.spm_version.specs.declared.kind.Kind.TheVariants.{NotJson, TooMany, WrongKind}
+use Rattle.spm_json.specs.Reading.{Reading, fault_here, in_document, or_fault, ◌>>=◌}
 
 abbrev pub item_list : Items → List Data
 item_list no_items = []
@@ -37,3 +37,7 @@ text_of d = or_fault WrongKind (as_str d)
 -- an integer from 0 to 2^64 - 1
 abbrev pub whole_number_of : Data → Reading ℕ
 whole_number_of d = or_fault WrongKind (option_and_then as_u64 (as_number d))
+
+-- what the bytes of a whole document are read as, with places from its root
+abbrev pub whole_of : {A : Type 0} → (Data → Reading A) → List ℕ → Reading A
+whole_of reading bytes = in_document (document_of bytes >>= reading)

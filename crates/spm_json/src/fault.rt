@@ -53,7 +53,7 @@ impl<T: Drop> From<AllocFailed<T>> for ReadFault {
 
 impl ReadFault {
     ghost use Rattle.std.specs.Fmt.{decimal};
-    ghost use Rattle.spm_json.specs.Moved.{moved, without_place};
+    ghost use Rattle.spm_json.specs.Moved.{moved, whole_place, without_place};
     ghost use Rattle.spm_json.specs.declared.fault.ReadFault.TheVariants.{At};
 
     /// A fault of the item that is read itself. It takes no memory.
@@ -106,6 +106,21 @@ impl ReadFault {
         match self {
             ReadFault::At { kind, .. } => ReadFault::here(alloc, kind),
             ReadFault::Memory => ReadFault::Memory,
+        }
+    }
+
+    /// The fault of a whole document, whose own place is `/`.
+    pub fn of_document(self, alloc: Global) -> ReadFault
+        ensures { (result ≡ whole_place self) ⊎ (result ≡ Memory) }
+    {
+        match self {
+            ReadFault::At { place, kind } if place.as_str().is_empty() => {
+                match Text::from_str(alloc, "/") {
+                    Ok(place) => ReadFault::At { place, kind },
+                    Err(NoMemory) => ReadFault::Memory,
+                }
+            }
+            fault => fault,
         }
     }
 }

@@ -17,6 +17,7 @@
 
 mod fault;
 mod from_json;
+mod names;
 mod object;
 mod sequence;
 mod shape;
@@ -24,7 +25,8 @@ mod values;
 
 pub use fault::ReadFault;
 pub use from_json::{FromJson, FromMember};
+pub use names::Names;
 pub use object::{Object, member_as};
 pub use sequence::{items, limited_items, members, sole, sole_member};
-pub use shape::{limited_list, list, read_document, text, whole_number};
-pub use values::{identity, release};
+pub use shape::{limited_list, list, read_document, read_whole, text, whole_number};
+pub use values::{expect_version, identity, release};

@@ -24,6 +24,14 @@ fn each_item<T: FromJson + Drop>(alloc: Global, values: &[Value]) -> Result<Item
     Ok(Items::from_vec(read))
 }
 
+impl<T: FromJson + Drop> FromJson for Items<T> {
+    ghost reading = { items_of T.reading };
+
+    fn from_json(alloc: Global, value: &Value) -> Result<Items<T>, ReadFault> {
+        items(alloc, value)
+    }
+}
+
 /// Reads each item of a list.
 pub fn items<T: FromJson + Drop>(alloc: Global, value: &Value) -> Result<Items<T>, ReadFault>
     ensures { Gives result (items_of T.reading (view value.now)) }

@@ -1,9 +1,10 @@
 ghost use Rattle.std.specs.Prelude.{◌≡◌, map};
 ghost use Rattle.serde_json.specs.View.{view};
 ghost use Rattle.spm_json.specs.Reading.{Gives, GivesBy};
-ghost use Rattle.spm_json.specs.Shape.{document_of, limited_list_of, list_of, text_of, whole_number_of};
+ghost use Rattle.spm_json.specs.Shape.{document_of, limited_list_of, list_of, text_of, whole_number_of, whole_of};
 
 use crate::fault::ReadFault;
+use crate::from_json::FromJson;
 use serde_json::Value;
 use spm_version::Kind;
 use std::alloc::Global;
@@ -16,6 +17,19 @@ pub fn read_document(alloc: Global, bytes: &[u8]) -> Result<Value, ReadFault>
         Ok(value) => Ok(value),
         Err(e) if e.is_memory() => Err(ReadFault::Memory),
         Err(_) => Err(ReadFault::here(alloc, Kind::NotJson)),
+    }
+}
+
+/// What a whole document is read as. The place of a fault is a path from the document's root, which is `/`.
+pub fn read_whole<T: FromJson + Drop>(alloc: Global, bytes: &[u8]) -> Result<T, ReadFault>
+    ensures { Gives result (whole_of T.reading bytes.now) }
+{
+    match read_document(alloc, bytes) {
+        Ok(document) => match T::from_json(alloc, &document) {
+            Ok(x) => Ok(x),
+            Err(fault) => Err(fault.of_document(alloc)),
+        },
+        Err(fault) => Err(fault.of_document(alloc)),
     }
 }
 

@@ -1,12 +1,17 @@
 ghost use Rattle.spm_json.specs.Shape.{text_of, whole_number_of};
-ghost use Rattle.spm_json.specs.Value.{identity_in, identity_reading, release_in, release_reading, tools_reading};
+ghost use Rattle.serde_json.specs.View.{view};
+ghost use Rattle.spm_json.specs.Object.{data_of};
+ghost use Rattle.spm_json.specs.Value.{identity_in, identity_reading, release_in, release_reading, tools_reading, trait_names_reading, trait_reading, version_field, version_reading};
 ghost use Rattle.spm_json.specs.Reading.{Gives};
 
 use crate::fault::ReadFault;
 use crate::from_json::FromJson;
+use crate::object::Object;
+use crate::sequence::items;
 use crate::shape::{text, whole_number};
 use serde_json::Value;
 use spm_ident::{IdentFault, Identity};
+use spm_trait::{Listed, TraitFault, TraitName};
 use spm_version::{Kind, Release, Text, ToolsVersion, VersionFault};
 use std::alloc::Global;
 
@@ -77,4 +82,54 @@ impl FromJson for ToolsVersion {
             None => Err(ReadFault::here(alloc, Kind::BadVersion)),
         }
     }
+}
+
+impl FromJson for TraitName {
+    ghost reading = { trait_reading };
+
+    fn from_json(alloc: Global, value: &Value) -> Result<TraitName, ReadFault> {
+        let read = text(alloc, value)?;
+        match TraitName::parse(alloc, read) {
+            Ok(name) => Ok(name),
+            Err(TraitFault::Memory) => Err(ReadFault::Memory),
+            Err(_) => Err(ReadFault::here(alloc, Kind::BadTrait)),
+        }
+    }
+}
+
+impl FromJson for Listed<TraitName> {
+    ghost reading = { trait_names_reading };
+
+    fn from_json(alloc: Global, value: &Value) -> Result<Listed<TraitName>, ReadFault> {
+        let names = items(alloc, value)?;
+        Ok(Listed::from_vec(names.into_vec()))
+    }
+}
+
+/// The version of a file's own format has to be this number, as an integer.
+fn version(alloc: Global, value: &Value, wanted: u64) -> Result<(), ReadFault>
+    ensures { Gives result (version_reading wanted (view value.now)) }
+{
+    if !value.is_number() {
+        return Err(ReadFault::here(alloc, Kind::WrongKind));
+    }
+    match value.as_u64() {
+        Some(number) if number == wanted => Ok(()),
+        _ => Err(ReadFault::here(alloc, Kind::BadVersion)),
+    }
+}
+
+/// The member `version` of a file has to be this number: it is missing, of the wrong kind, or another number, which is
+/// a bad version.
+pub fn expect_version(alloc: Global, object: &Object, wanted: u64) -> Result<(), ReadFault>
+    ensures { Gives result (version_field wanted (data_of object.now)) }
+{
+    let fault = match object.get("version") {
+        Some(value) => match version(alloc, value, wanted) {
+            Ok(()) => return Ok(()),
+            Err(fault) => fault,
+        },
+        None => ReadFault::here(alloc, Kind::Missing),
+    };
+    Err(fault.under_key(alloc, "version"))
 }

@@ -1,2 +1,2 @@
-pub mod Kept
-pub mod Built
+pub mod Places
+pub mod Counting

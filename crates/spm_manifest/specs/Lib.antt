@@ -1,6 +1,7 @@
-pub mod Dump
-pub mod Fault
-pub mod TraitName
-pub mod Profile
+pub mod Traits
+pub mod Requirement
+pub mod Dependency
+pub mod Uses
 pub mod Guard
-pub mod LeftOut
+pub mod Counted
+pub mod Profile

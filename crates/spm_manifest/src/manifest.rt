@@ -1,58 +1,24 @@
-ghost use Rattle.std.specs.Prelude.{◌≡◌, Some, None, Err, IfOk, IsErr};
-ghost use Rattle.spm_manifest.specs.LeftOut.{built_of};
-ghost use Rattle.spm_manifest.specs.declared.manifest.ManifestFault.TheVariants.{Memory, NotBuilt};
+ghost use Rattle.std.specs.Prelude.{◌≡◌, IfOk};
+ghost use Rattle.spm_json.specs.Reading.{Gives};
+ghost use Rattle.spm_manifest.specs.Profile.{manifest_of};
 
+use crate::dump::{Contents, Dump};
+use crate::guard::needs_of;
 use crate::need::Need;
-use crate::shape::Contents;
-use spm_json::{FromJson, ReadFault, read_document};
-use spm_version::ToolsVersion;
+use spm_json::{ReadFault, read_whole};
+use spm_trait::Traits;
+use spm_version::{NoMemory, ToolsVersion};
 use std::alloc::Global;
-use std::error::Error;
-use std::fmt;
 use std::marker::Model;
 
-/// Why bytes are not read as a manifest.
-#[derive(Clone, Copy, Debug, PartialEq, Eq)]
-pub enum ManifestFault {
-    /// They are no manifest, or one with what is not read yet.
-    NotBuilt,
-    /// Want of memory.
-    Memory,
-}
-
-impl fmt::Display for ManifestFault {
-    fn fmt<W: fmt::Write>(&self, f: &mut fmt::Formatter<W>) -> fmt::Result {
-        f.write_str(match self {
-            ManifestFault::NotBuilt => "not built yet",
-            ManifestFault::Memory => "no memory",
-        })
-    }
-}
-
-impl Error for ManifestFault {}
-
-impl From<ReadFault> for ManifestFault {
-    ghost use Rattle.spm_json.specs.declared.fault.ReadFault.{ReadFault};
-    ghost use Rattle.spm_manifest.specs.Fault.{manifest_fault};
-
-    ghost from_gives = { λ fault e. e ≡ manifest_fault fault };
-
-    fn from(fault: ReadFault) -> ManifestFault {
-        match fault {
-            ReadFault::At { .. } => ManifestFault::NotBuilt,
-            ReadFault::Memory => ManifestFault::Memory,
-        }
-    }
-}
-
 /// A dumped manifest.
-#[derive(Drop)]
+#[derive(Debug, Drop)]
 pub struct Manifest {
     contents: Contents,
 }
 
 impl Model for Manifest {
-    ghost use Rattle.spm_manifest.specs.declared.shape.Contents.{Contents};
+    ghost use Rattle.spm_manifest.specs.declared.dump.Contents.{Contents};
 
     ghost Value = { Contents };
 
@@ -60,19 +26,32 @@ impl Model for Manifest {
 }
 
 impl Manifest {
-    /// Reads a manifest dump.
+    /// Reads a manifest dump (after `swift package dump-package`; traits after SE-0450).
     ///
-    /// `NotBuilt` where the bytes are no manifest, or are one with traits, targets, dependencies
-    /// other than registry packages, or requirements other than ranges.
-    pub fn read(alloc: Global, bytes: &[u8]) -> Result<Manifest, ManifestFault>
-        ensures ok { IfOk result (λ manifest. built_of bytes.now ≡ Some manifest) }
-        // Exactly where the bytes are no manifest of the profile, or have what is left out.
-        ensures not_built { result ≡ Err NotBuilt → built_of bytes.now ≡ None }
-        ensures refused { built_of bytes.now ≡ None → IsErr result }
+    /// # Errors
+    ///
+    /// The first fault in the reading order: its kind, and its place as a path from the document's root, which is `/`.
+    #[tactic(auto, unfolding(crate::specs::Profile::manifest_of))]
+    pub fn read(alloc: Global, bytes: &[u8]) -> Result<Manifest, ReadFault>
+        ensures { Gives result (manifest_of bytes.now) }
     {
-        let document = read_document(alloc, bytes)?;
-        let contents = Contents::from_json(alloc, &document)?;
-        Ok(Manifest { contents })
+        let dump: Dump = read_whole(alloc, bytes)?;
+        let Dump {
+            name,
+            tools,
+            traits,
+            dependencies,
+            targets,
+        } = dump;
+        let needs = needs_of(alloc, dependencies.as_slice(), targets.as_slice())?;
+        Ok(Manifest {
+            contents: Contents {
+                name,
+                tools,
+                traits,
+                needs,
+            },
+        })
     }
 
     /// The package's name.
@@ -89,10 +68,36 @@ impl Manifest {
         self.contents.tools
     }
 
+    /// The traits that the package declares, with distinct names.
+    pub fn traits(&self) -> &Traits
+        ensures { result.now ≡ self.now.traits }
+    {
+        &self.contents.traits
+    }
+
     /// The package's dependencies, in their order.
     pub fn needs(&self) -> &[Need]
         ensures { result.now ≡ self.now.needs }
     {
         self.contents.needs.as_slice()
+    }
+
+    /// A copy of the manifest.
+    pub fn copy(&self, alloc: Global) -> Result<Manifest, NoMemory>
+        ensures { IfOk result (λ copy. copy ≡ self.now) }
+    {
+        let name = self.contents.name.copy(alloc)?;
+        let Ok(traits) = self.contents.traits.copy(alloc) else {
+            return Err(NoMemory);
+        };
+        let needs = self.contents.needs.copy(alloc)?;
+        Ok(Manifest {
+            contents: Contents {
+                name,
+                tools: self.contents.tools,
+                traits,
+                needs,
+            },
+        })
     }
 }

@@ -1,1 +1,7 @@
 pub mod PinLemmas
+pub mod Tame
+pub mod TameParts
+pub mod LockTokens
+pub mod LockData
+pub mod LockReading
+pub mod LockLaw

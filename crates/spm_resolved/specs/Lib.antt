@@ -1,1 +1,3 @@
 pub mod Resolved
+pub mod Reading
+pub mod Pin

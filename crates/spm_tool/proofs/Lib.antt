@@ -1,2 +1,4 @@
+pub mod Chosen
 pub mod Newest
+pub mod Refusals
 pub mod Tell

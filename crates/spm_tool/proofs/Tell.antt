@@ -9,7 +9,7 @@ use Rattle.spm_tool.specs.declared.ending.Ending.TheVariants as run
 use Rattle.spm_tool.specs.declared.ending.ShelfEnding.{ShelfEnding}
 use Rattle.spm_tool.specs.declared.ending.ShelfEnding.TheVariants as shelf
 use Rattle.spm_tool.specs.declared.ending.RootEnding.{RootEnding}
-use Rattle.spm_tool.specs.declared.ending.RootEnding.TheVariants.{Missing, NotBuilt, Fault, Resolved, Memory}
+use Rattle.spm_tool.specs.declared.ending.RootEnding.TheVariants.{Missing, Unreadable, TooNew, NotBuilt, Fault, LockUnreadable, Refuted, Resolved, Memory}
 
 nothing_more : (written : Option (List ℕ)) → written ≡ option_map (λ w. w ++ []) written
 nothing_more None = refl
@@ -17,7 +17,11 @@ nothing_more (Some w) = ap Some (sym (append-nil w))
 
 root_memory : (ending : RootEnding) → 6 ≡ status_after (root_status ending) (Err sink.Memory)
 root_memory Missing = refl
+root_memory (Unreadable place kind) = refl
+root_memory (TooNew tools) = refl
 root_memory NotBuilt = refl
+root_memory (LockUnreadable place kind) = refl
+root_memory (Refuted identity requirement) = refl
 root_memory (Fault call) = refl
 root_memory (Resolved text count) = refl
 root_memory Memory = refl

@@ -12,7 +12,7 @@ use Rattle.spm_tool.specs.declared.ending.ShelfEnding.TheVariants as shelf
 use Rattle.spm_tool.specs.declared.ending.RootCall.{RootCall}
 use Rattle.spm_tool.specs.declared.ending.RootCall.TheVariants.{GetManifest, GetLock, PutLock}
 use Rattle.spm_tool.specs.declared.ending.RootEnding.{RootEnding}
-use Rattle.spm_tool.specs.declared.ending.RootEnding.TheVariants.{Missing, NotBuilt, Fault, Resolved, Memory}
+use Rattle.spm_tool.specs.declared.ending.RootEnding.TheVariants.{Missing, Unreadable, TooNew, NotBuilt, Fault, LockUnreadable, Refuted, Resolved, Memory}
 
 -- what a desk tells: its files, the names whose get or put failed, and the count of faults
 pub record DeskState : Type 0 where
@@ -29,8 +29,12 @@ file_of_call root PutLock = lock_name root
 -- the file on which the desk failed
 abbrev pub faulty_root_file : List ℕ → RootEnding → Option (List ℕ)
 faulty_root_file root Missing = None
+faulty_root_file root (Unreadable place kind) = None
+faulty_root_file root (TooNew tools) = None
 faulty_root_file root NotBuilt = None
 faulty_root_file root (Fault call) = Some (file_of_call root call)
+faulty_root_file root (LockUnreadable place kind) = None
+faulty_root_file root (Refuted identity requirement) = None
 faulty_root_file root (Resolved text count) = None
 faulty_root_file root Memory = None
 
@@ -53,10 +57,14 @@ FaultLeft None before after = (after.failed ≡ before.failed) × (after.faults 
 -- The lock file is put where the root was resolved, and is unknown where its put failed; nothing else changes.
 abbrev pub RootFilesLeft : List ℕ → RootEnding → Option FileMap → Option FileMap → Type 0
 RootFilesLeft root Missing old new = new ≡ old
+RootFilesLeft root (Unreadable place kind) old new = new ≡ old
+RootFilesLeft root (TooNew tools) old new = new ≡ old
 RootFilesLeft root NotBuilt old new = new ≡ old
 RootFilesLeft root (Fault GetManifest) old new = new ≡ old
 RootFilesLeft root (Fault GetLock) old new = new ≡ old
 RootFilesLeft root (Fault PutLock) old new = OthersStay (lock_name root) old new
+RootFilesLeft root (LockUnreadable place kind) old new = new ≡ old
+RootFilesLeft root (Refuted identity requirement) old new = new ≡ old
 RootFilesLeft root (Resolved text count) old new = new ≡ option_map (λ files. map.insert files (lock_name root) text) old
 RootFilesLeft root Memory old new = new ≡ old
 

@@ -1,56 +1,89 @@
 -- How a run ends, as a function of the files' bytes where no call of the desk fails and memory is ample.
-use Rattle.std.specs.Prelude.{◌≡◌, ℕ, List, length, Option, Some, None, Result, Ok, Err, ⊤, IsOk}
+use Rattle.std.specs.Prelude.{◌≡◌, ℕ, List, [], length, not, Option, Some, None, Result, Ok, Err, IsOk, if◌then◌else◌}
 use Rattle.std.specs.FinMap as map
 use Rattle.spm_digest.specs.Digest.{sha256}
-use Rattle.spm_manifest.specs.declared.shape.Contents.{Contents}
+use Rattle.spm_json.specs.Reading.{Reading}
+use Rattle.spm_manifest.specs.Profile.{manifest_of}
+use Rattle.spm_manifest.specs.declared.dump.Contents.{Contents}
+use Rattle.spm_manifest.specs.declared.need.Need.{Need}
 use Rattle.spm_outside.specs.Names.{FileMap}
+use Rattle.spm_resolved.specs.Reading.{resolved_of}
 use Rattle.spm_resolved.specs.Resolved.{resolved_text}
+use Rattle.spm_resolved.specs.declared.reading.Resolved.{Resolved as LockFile}
 use Rattle.spm_shelf.specs.declared.shelf.ShelfFile.{ShelfFile}
-use Rattle.spm_tool.specs.Selection.{pins_of, plain_shelf_of, ready_manifest_of}
+use Rattle.spm_shelf.specs.declared.shelf.ShelfPackage.{ShelfPackage}
+use Rattle.spm_tool.specs.Selection.{fits_tools, is_built, last_unmet, pins_of, plain_shelf_of}
 use Rattle.spm_tool.specs.Words.{Order, lock_name, manifest_name}
 use Rattle.spm_version.specs.Release.{Parts}
+use Rattle.spm_version.specs.declared.requirement.Requirement.{Requirement}
 use Rattle.spm_tool.specs.declared.ending.Ending.{Ending}
 use Rattle.spm_tool.specs.declared.ending.Ending.TheVariants as run
 use Rattle.spm_tool.specs.declared.ending.ShelfEnding.{ShelfEnding}
 use Rattle.spm_tool.specs.declared.ending.ShelfEnding.TheVariants as shelf
-use Rattle.spm_tool.specs.declared.ending.RootCall.{RootCall}
 use Rattle.spm_tool.specs.declared.ending.RootCall.TheVariants.{GetManifest, GetLock, PutLock}
 use Rattle.spm_tool.specs.declared.ending.RootEnding.{RootEnding}
-use Rattle.spm_tool.specs.declared.ending.RootEnding.TheVariants.{Missing, NotBuilt, Fault, Resolved, Memory}
+use Rattle.spm_tool.specs.declared.ending.RootEnding.TheVariants.{Missing, Unreadable, TooNew, NotBuilt, Fault, LockUnreadable, Refuted, Resolved, Memory}
 
 -- ---- a root
 
-abbrev pub ready_or_not : List ℕ → Option Contents → Result (Contents × List ℕ) RootEnding
-ready_or_not bytes (Some contents) = Ok (contents, bytes)
-ready_or_not bytes None = Err NotBuilt
+-- the manifest, or its refusal: unreadable, too new, not built yet
+abbrev pub if_built : Contents → Result Contents RootEnding
+if_built contents =
+    if not (fits_tools contents.tools) then Err (TooNew contents.tools)
+    else if not (is_built contents) then Err NotBuilt
+    else Ok contents
+
+abbrev pub ready_manifest : Reading Contents → Result Contents RootEnding
+ready_manifest (Ok contents) = if_built contents
+ready_manifest (Err fault) = Err (Unreadable fault.place fault.kind)
+
+abbrev pub with_bytes : List ℕ → Result Contents RootEnding → Result (Contents × List ℕ) RootEnding
+with_bytes bytes (Ok contents) = Ok (contents, bytes)
+with_bytes bytes (Err ending) = Err ending
 
 -- the manifest's contents and bytes, or the refusal
 abbrev pub manifest_in : Option (List ℕ) → Result (Contents × List ℕ) RootEnding
 manifest_in None = Err Missing
-manifest_in (Some bytes) = ready_or_not bytes (ready_manifest_of bytes)
+manifest_in (Some bytes) = with_bytes bytes (ready_manifest (manifest_of bytes))
 
--- a lock file isn't read yet: it has to be absent
-abbrev pub no_lock_in : Option (List ℕ) → Result ⊤ RootEnding
-no_lock_in None = Ok tt
-no_lock_in (Some bytes) = Err NotBuilt
+abbrev pub read_pins : Reading LockFile → Result (List (List ℕ × Parts)) RootEnding
+read_pins (Ok resolved) = Ok resolved.pins
+read_pins (Err fault) = Err (LockUnreadable fault.place fault.kind)
 
-abbrev pub lock_or_not : List ℕ → Option (List (List ℕ × Parts)) → Result (List ℕ × ℕ) RootEnding
-lock_or_not bytes (Some pins) = Ok (resolved_text (sha256 bytes) pins, length pins)
-lock_or_not bytes None = Err NotBuilt
+-- the pins of the lock file, none where it is absent, or the refusal
+abbrev pub kept_in : Option (List ℕ) → Result (List (List ℕ × Parts)) RootEnding
+kept_in None = Ok []
+kept_in (Some bytes) = read_pins (resolved_of bytes)
+
+abbrev pub pins_or_not : Option (List (List ℕ × Parts)) → Result (List (List ℕ × Parts)) RootEnding
+pins_or_not (Some pins) = Ok pins
+pins_or_not None = Err NotBuilt
+
+abbrev pub unless_unmet : Option (List ℕ × Requirement) → Result (List (List ℕ × Parts)) RootEnding → Result (List (List ℕ × Parts)) RootEnding
+unless_unmet (Some unmet) chosen = Err (Refuted unmet.0 unmet.1)
+unless_unmet None chosen = chosen
+
+-- the pins that are chosen, or the refusal: a dependency that no release meets, what isn't built yet
+abbrev pub chosen_in : List ShelfPackage → List Need → List (List ℕ × Parts) → Result (List (List ℕ × Parts)) RootEnding
+chosen_in packages needs kept = unless_unmet (last_unmet packages needs) (pins_or_not (pins_of packages kept needs))
+
+abbrev pub lock_or_not : List ℕ → Result (List (List ℕ × Parts)) RootEnding → Result (List ℕ × ℕ) RootEnding
+lock_or_not bytes (Ok pins) = Ok (resolved_text (sha256 bytes) pins, length pins)
+lock_or_not bytes (Err ending) = Err ending
 
 -- the lock file's text and the number of its pins, or the refusal
-abbrev pub lock_in : ShelfFile → Contents × List ℕ → Result (List ℕ × ℕ) RootEnding
-lock_in shelf manifest = lock_or_not manifest.1 (pins_of shelf.packages manifest.0.needs)
+abbrev pub lock_in : ShelfFile → Contents × List ℕ → List (List ℕ × Parts) → Result (List ℕ × ℕ) RootEnding
+lock_in shelf manifest kept = lock_or_not manifest.1 (chosen_in shelf.packages manifest.0.needs kept)
 
-abbrev pub after_no_lock : ShelfFile → Contents × List ℕ → Result ⊤ RootEnding → Result (List ℕ × ℕ) RootEnding
-after_no_lock shelf manifest (Ok nothing) = lock_in shelf manifest
-after_no_lock shelf manifest (Err ending) = Err ending
+abbrev pub after_kept : ShelfFile → Contents × List ℕ → Result (List (List ℕ × Parts)) RootEnding → Result (List ℕ × ℕ) RootEnding
+after_kept shelf manifest (Ok kept) = lock_in shelf manifest kept
+after_kept shelf manifest (Err ending) = Err ending
 
 abbrev pub after_manifest : ShelfFile → Option (List ℕ) → Result (Contents × List ℕ) RootEnding → Result (List ℕ × ℕ) RootEnding
-after_manifest shelf lock (Ok manifest) = after_no_lock shelf manifest (no_lock_in lock)
+after_manifest shelf lock (Ok manifest) = after_kept shelf manifest (kept_in lock)
 after_manifest shelf lock (Err ending) = Err ending
 
--- The refusals in their order: the manifest, the lock file that is there, the selection.
+-- The refusals in their order: the manifest, the lock file, the selection.
 abbrev pub root_ending : ShelfFile → List ℕ → FileMap → Result (List ℕ × ℕ) RootEnding
 root_ending shelf root files =
     after_manifest shelf (map.get files (lock_name root)) (manifest_in (map.get files (manifest_name root)))
@@ -58,10 +91,14 @@ root_ending shelf root files =
 -- A root's ending is that of its files' bytes, want of memory, or a fault at a call that the run comes to.
 abbrev pub IsRootEnding : ShelfFile → List ℕ → FileMap → RootEnding → Type 0
 IsRootEnding shelf root files Missing = root_ending shelf root files ≡ Err Missing
+IsRootEnding shelf root files (Unreadable place kind) = root_ending shelf root files ≡ Err (Unreadable place kind)
+IsRootEnding shelf root files (TooNew tools) = root_ending shelf root files ≡ Err (TooNew tools)
 IsRootEnding shelf root files NotBuilt = root_ending shelf root files ≡ Err NotBuilt
 IsRootEnding shelf root files (Fault GetManifest) = Unit {0}
 IsRootEnding shelf root files (Fault GetLock) = IsOk (manifest_in (map.get files (manifest_name root)))
 IsRootEnding shelf root files (Fault PutLock) = IsOk (root_ending shelf root files)
+IsRootEnding shelf root files (LockUnreadable place kind) = root_ending shelf root files ≡ Err (LockUnreadable place kind)
+IsRootEnding shelf root files (Refuted identity requirement) = root_ending shelf root files ≡ Err (Refuted identity requirement)
 IsRootEnding shelf root files (Resolved text count) = root_ending shelf root files ≡ Ok (text, count)
 IsRootEnding shelf root files Memory = Unit {0}
 

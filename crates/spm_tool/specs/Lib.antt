@@ -1,7 +1,9 @@
 pub mod Words
 pub mod WordsView
 pub mod Selection
+pub mod Views
 pub mod Newest
+pub mod Chosen
 pub mod Ending
 pub mod Course
 pub mod Phase

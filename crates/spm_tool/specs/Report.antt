@@ -3,14 +3,20 @@ use Rattle.std.specs.Prelude.{ℕ, ◌+◌, ◌*◌, ◌==◌, List, [], ◌∷�
 use Rattle.std.specs.Fmt.{decimal}
 use Rattle.spm_outside.specs.declared.sink.SinkFault.{SinkFault}
 use Rattle.spm_outside.specs.declared.sink.SinkFault.TheVariants as sink
+use Rattle.spm_version.specs.Kind.{kind_text}
+use Rattle.spm_version.specs.Release.{parts_text}
+use Rattle.spm_version.specs.ToolsVersion.{tools_text}
+use Rattle.spm_version.specs.declared.requirement.Requirement.{Requirement}
+use Rattle.spm_version.specs.declared.requirement.Requirement.TheVariants.{Exact, Range, Branch, Revision, Path}
 use Rattle.spm_tool.specs.Course.{file_of_call}
+use Rattle.spm_tool.specs.Selection.{running}
 use Rattle.spm_tool.specs.Words.{Order}
 use Rattle.spm_tool.specs.declared.ending.Ending.{Ending}
 use Rattle.spm_tool.specs.declared.ending.Ending.TheVariants as run
 use Rattle.spm_tool.specs.declared.ending.ShelfEnding.{ShelfEnding}
 use Rattle.spm_tool.specs.declared.ending.ShelfEnding.TheVariants as shelf
 use Rattle.spm_tool.specs.declared.ending.RootEnding.{RootEnding}
-use Rattle.spm_tool.specs.declared.ending.RootEnding.TheVariants.{Missing, NotBuilt, Fault, Resolved, Memory}
+use Rattle.spm_tool.specs.declared.ending.RootEnding.TheVariants.{Missing, Unreadable, TooNew, NotBuilt, Fault, LockUnreadable, Refuted, Resolved, Memory}
 
 -- a line feed
 abbrev pub line_end : List ℕ
@@ -20,18 +26,41 @@ line_end = 10 ∷ []
 abbrev pub turns_of : ℕ → ℕ
 turns_of count = 4 + 6 * count
 
--- what a root's line says behind `ROOT: `
+-- a requirement of versions; others are of no dependency that is built
+abbrev pub requirement_text : Requirement → List ℕ
+requirement_text (Exact release) = codes "exactly " ++ parts_text release
+requirement_text (Range lower upper) = parts_text lower ++ (codes "..<" ++ parts_text upper)
+requirement_text (Branch name) = codes "branch " ++ name
+requirement_text (Revision name) = codes "revision " ++ name
+requirement_text Path = codes "path"
+
+-- what a root's lines say behind `ROOT: `
 abbrev pub root_text : List ℕ → RootEnding → List ℕ
 root_text root Missing = codes "Package.json is missing"
+root_text root (Unreadable place kind) = codes "Package.json is unreadable at " ++ (place ++ (codes ": " ++ kind_text kind))
+root_text root (TooNew tools) = codes "Package.json needs tools " ++ (tools_text tools ++ (codes ", running " ++ tools_text running))
 root_text root NotBuilt = codes "not built yet"
 root_text root (Fault call) = file_of_call root call ++ codes ": file fault"
+root_text root (LockUnreadable place kind) = codes "Package.resolved is unreadable at " ++ (place ++ (codes ": " ++ kind_text kind))
+root_text root (Refuted identity requirement) = codes "no selection in 1 turns\n1. root needs " ++ (identity
+    ++ (codes " " ++ (requirement_text requirement ++ codes ": [root chosen]\nSo no selection exists.")))
 root_text root (Resolved text count) = codes "resolved " ++ (decimal count ++ (codes " in " ++ (decimal (turns_of count) ++ codes " turns")))
 root_text root Memory = codes "no memory"
 
+abbrev pub refuted_text : List ℕ
+refuted_text = codes "roots 1: resolved 0, refuted 1, refused 0, faulty 0, differing 0, cancelled 0, memory 0"
+
+abbrev pub refused_text : List ℕ
+refused_text = codes "roots 1: resolved 0, refuted 0, refused 1, faulty 0, differing 0, cancelled 0, memory 0"
+
 -- the last line: how many roots ended in which way
 abbrev pub summary_text : RootEnding → List ℕ
-summary_text Missing = codes "roots 1: resolved 0, refuted 0, refused 1, faulty 0, differing 0, cancelled 0, memory 0"
-summary_text NotBuilt = codes "roots 1: resolved 0, refuted 0, refused 1, faulty 0, differing 0, cancelled 0, memory 0"
+summary_text Missing = refused_text
+summary_text (Unreadable place kind) = refused_text
+summary_text (TooNew tools) = refused_text
+summary_text NotBuilt = refused_text
+summary_text (LockUnreadable place kind) = refused_text
+summary_text (Refuted identity requirement) = refuted_text
 summary_text (Fault call) = codes "roots 1: resolved 0, refuted 0, refused 0, faulty 1, differing 0, cancelled 0, memory 0"
 summary_text (Resolved text count) = codes "roots 1: resolved 1, refuted 0, refused 0, faulty 0, differing 0, cancelled 0, memory 0"
 summary_text Memory = codes "roots 1: resolved 0, refuted 0, refused 0, faulty 0, differing 0, cancelled 0, memory 1"
@@ -55,7 +84,11 @@ report_of order (run.Root ending) = root_report order.root ending
 
 abbrev pub root_status : RootEnding → ℕ
 root_status Missing = 3
+root_status (Unreadable place kind) = 3
+root_status (TooNew tools) = 3
 root_status NotBuilt = 3
+root_status (LockUnreadable place kind) = 3
+root_status (Refuted identity requirement) = 1
 root_status (Fault call) = 4
 root_status (Resolved text count) = 0
 root_status Memory = 6
@@ -70,7 +103,7 @@ abbrev pub status_of : Ending → ℕ
 status_of (run.Shelf ending) = shelf_status ending
 status_of (run.Root ending) = root_status ending
 
--- The exit status, with what the sink answered: refused words are 2 in any case; else the first of 6, 4, 3, 0
+-- The exit status, with what the sink answered: refused words are 2 in any case; else the first of 6, 4, 3, 1, 0
 -- that the ending or the sink gives.
 abbrev pub status_after : ℕ → Result ⊤ SinkFault → ℕ
 status_after status (Ok nothing) = status

@@ -1,7 +1,6 @@
 -- The contract of `resolve`: the words and the bytes of the files decide the ending, and the ending decides the report,
 -- the status and the files after. Faults are tied to the counts of the desk and the sink; want of memory is free.
 use Rattle.std.specs.Prelude.{◌≡◌, ℕ, List, Option, Some, None, IfSome, Result, ⊤}
-use Rattle.spm_outside.specs.Names.{FileMap}
 use Rattle.spm_outside.specs.Sink.{PutsAll, SinkFaultsAfter}
 use Rattle.spm_outside.specs.declared.sink.SinkFault.{SinkFault}
 use Rattle.spm_tool.specs.Course.{DeskState, FaultLeft, FilesLeft, faulty_file}

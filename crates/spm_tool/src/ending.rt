@@ -1,4 +1,5 @@
-use spm_version::Bytes;
+use spm_ident::Identity;
+use spm_version::{Bytes, Kind, Requirement, Text, ToolsVersion};
 
 /// A call of the desk for a root.
 #[derive(Clone, Copy, Debug, PartialEq, Eq)]
@@ -16,10 +17,18 @@ pub enum RootCall {
 pub enum RootEnding {
     /// There is no `Package.json`.
     Missing,
+    /// `Package.json` is no manifest: the place and the kind of its first fault.
+    Unreadable(Text, Kind),
+    /// `Package.json` needs these tools, which are newer than the running ones.
+    TooNew(ToolsVersion),
     /// The root has what is not built yet.
     NotBuilt,
     /// The desk failed at this call.
     Fault(RootCall),
+    /// `Package.resolved` is no lock file of version 3: the place and the kind of its first fault.
+    LockUnreadable(Text, Kind),
+    /// No release of this package is in what the root requires of it.
+    Refuted(Identity, Requirement),
     /// The lock file with this text and so many pins was put.
     Resolved(Bytes, usize),
     /// Want of memory.

@@ -7,16 +7,18 @@
 //! desk or the sink is answered only where its count of faults rose, and want of memory is free.
 //!
 //! What is chosen is a private part of this crate (`specs/Selection.antt`): of each direct dependency
-//! the newest release that its requirement contains. [`newest_is_above_all`] says what newest means.
+//! the pinned release where it is allowed, else the newest one that its requirement contains.
+//! [`newest_is_above_all`] says what newest means, and [`pins_are_chosen`] what the pins are.
 //!
 //! The proof goes by steps: the get of the shelf, of the manifest and of the lock file, the selection
 //! and the put are functions of their own, each of which says what it comes to (`specs/Phase.antt`), what
 //! it leaves at the desk, and on which file it failed. The loops keep that what is left comes to what
-//! the whole does; `proofs/Newest.antt` has the law of the order, `proofs/Tell.antt` the case where no
-//! report could be made.
+//! the whole does; `proofs/Newest.antt` has the law of the order, `proofs/Chosen.antt` that of the pins,
+//! `proofs/Tell.antt` the case where no report could be made.
 #![tactic(auto)]
 
 mod ending;
+mod laws;
 mod manifest;
 mod report;
 mod root;
@@ -26,5 +28,5 @@ mod top;
 mod words;
 
 pub use ending::{Ending, RootCall, RootEnding, ShelfEnding};
-pub use selection::newest_is_above_all;
+pub use laws::{newest_is_above_all, pins_are_chosen};
 pub use top::resolve;

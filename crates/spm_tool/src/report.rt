@@ -1,22 +1,42 @@
 ghost use Rattle.std.specs.Prelude.{◌≡◌, ◌<◌, ◌^◌, IfOk, codes, string_bytes};
 ghost use Rattle.spm_outside.specs.Sink.{PutsAll, SinkFaultsAfter};
-ghost use Rattle.spm_tool.specs.Report.{report_of, root_report, root_status, root_text, shelf_report, shelf_status, status_of, summary_text, turns_of};
+ghost use Rattle.spm_tool.specs.Report.{report_of, requirement_text, root_report, root_status, root_text, shelf_report, shelf_status, status_of, summary_text, turns_of};
 ghost use Rattle.spm_tool.specs.Resolves.{Tells};
 ghost use Rattle.spm_tool.specs.WordsView.{order_view};
 
 use crate::ending::{Ending, RootCall, RootEnding, ShelfEnding};
+use crate::manifest::RUNNING;
 use crate::root::{lock_name, manifest_name};
 use crate::words::Order;
 use spm_outside::{Sink, SinkFault, put_all};
-use spm_version::NoMemory;
+use spm_version::{NoMemory, Requirement};
 use std::alloc::Global;
 
-/// What a root's line says behind its name.
+/// A requirement as a derivation writes it.
+fn requirement_text(alloc: Global, requirement: &Requirement) -> Result<String, NoMemory>
+    ensures { IfOk result (λ text. string_bytes text ≡ requirement_text requirement.now) }
+{
+    match requirement {
+        Requirement::Exact(release) => Ok(format!(in alloc; "exactly {release}")?),
+        Requirement::Range(lower, upper) => Ok(format!(in alloc; "{lower}..<{upper}")?),
+        Requirement::Branch(name) => Ok(format!(in alloc; "branch {name}")?),
+        Requirement::Revision(name) => Ok(format!(in alloc; "revision {name}")?),
+        Requirement::Path => Ok(String::from_str(alloc, "path")?),
+    }
+}
+
+/// What a root's lines say behind its name.
 fn root_text(alloc: Global, root: &str, ending: &RootEnding) -> Result<String, NoMemory>
     ensures { IfOk result (λ text. string_bytes text ≡ root_text root.now ending.now) }
 {
     match ending {
         RootEnding::Missing => Ok(String::from_str(alloc, "Package.json is missing")?),
+        RootEnding::Unreadable(place, kind) => {
+            Ok(format!(in alloc; "Package.json is unreadable at {place}: {kind}")?)
+        }
+        RootEnding::TooNew(tools) => {
+            Ok(format!(in alloc; "Package.json needs tools {tools}, running {RUNNING}")?)
+        }
         RootEnding::NotBuilt => Ok(String::from_str(alloc, "not built yet")?),
         RootEnding::Fault(call) => {
             let file = match call {
@@ -24,6 +44,15 @@ fn root_text(alloc: Global, root: &str, ending: &RootEnding) -> Result<String, N
                 RootCall::GetLock | RootCall::PutLock => lock_name(alloc, root)?,
             };
             Ok(format!(in alloc; "{file}: file fault")?)
+        }
+        RootEnding::LockUnreadable(place, kind) => {
+            Ok(format!(in alloc; "Package.resolved is unreadable at {place}: {kind}")?)
+        }
+        RootEnding::Refuted(identity, requirement) => {
+            let requirement = requirement_text(alloc, requirement)?;
+            Ok(format!(in alloc;
+                "no selection in 1 turns\n1. root needs {identity} {requirement}: [root chosen]\nSo no selection exists."
+            )?)
         }
         RootEnding::Resolved(_, count) => {
             let turns = turns_of(*count);
@@ -45,8 +74,15 @@ fn summary_text(ending: &RootEnding) -> &'static str
     ensures { result.now ≡ summary_text ending.now }
 {
     match ending {
-        RootEnding::Missing | RootEnding::NotBuilt => {
+        RootEnding::Missing
+        | RootEnding::Unreadable(_, _)
+        | RootEnding::TooNew(_)
+        | RootEnding::NotBuilt
+        | RootEnding::LockUnreadable(_, _) => {
             "roots 1: resolved 0, refuted 0, refused 1, faulty 0, differing 0, cancelled 0, memory 0"
+        }
+        RootEnding::Refuted(_, _) => {
+            "roots 1: resolved 0, refuted 1, refused 0, faulty 0, differing 0, cancelled 0, memory 0"
         }
         RootEnding::Fault(_) =>
             "roots 1: resolved 0, refuted 0, refused 0, faulty 1, differing 0, cancelled 0, memory 0",
@@ -94,7 +130,12 @@ fn root_status(ending: &RootEnding) -> u8
     ensures { result ≡ root_status ending.now }
 {
     match ending {
-        RootEnding::Missing | RootEnding::NotBuilt => 3,
+        RootEnding::Missing
+        | RootEnding::Unreadable(_, _)
+        | RootEnding::TooNew(_)
+        | RootEnding::NotBuilt
+        | RootEnding::LockUnreadable(_, _) => 3,
+        RootEnding::Refuted(_, _) => 1,
         RootEnding::Fault(_) => 4,
         RootEnding::Resolved(_, _) => 0,
         RootEnding::Memory => 6,

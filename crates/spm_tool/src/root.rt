@@ -1,20 +1,24 @@
 ghost use Rattle.std.specs.Prelude.{◌≡◌, Ok, IfOk, IfSome, string_bytes};
 ghost use Rattle.std.specs.FinMap as map;
 ghost use Rattle.spm_tool.specs.Course.{FaultLeft, RootFilesLeft, faulty_root_file};
-ghost use Rattle.spm_tool.specs.Ending.{IsRootEnding, lock_in, manifest_in, no_lock_in};
-ghost use Rattle.spm_tool.specs.Phase.{Computes, IsPutEnding, Steps, faulty_in_step};
+ghost use Rattle.spm_tool.specs.Ending.{IsRootEnding, chosen_in, kept_in, lock_in, manifest_in, ready_manifest, read_pins};
+ghost use Rattle.spm_manifest.specs.Profile.{manifest_of};
+ghost use Rattle.spm_resolved.specs.Reading.{resolved_of};
+ghost use Rattle.spm_tool.specs.Phase.{Computes, ComputesBy, IsPutEnding, IsRefuted, Steps, faulty_in_step};
+ghost use Rattle.spm_tool.specs.Views.{unmet_view};
 ghost use Rattle.spm_tool.specs.Words.{lock_name, manifest_name};
 ghost use Rattle.spm_tool.specs.declared.ending.RootCall.TheVariants.{GetManifest, GetLock};
 
 use crate::ending::{RootCall, RootEnding};
-use crate::manifest::ready_manifest;
-use crate::selection::pins_of;
+use crate::manifest::{fits_tools, is_built};
+use crate::selection::{Unmet, last_unmet, pins_of};
 use spm_digest::sum;
-use spm_manifest::Manifest;
+use spm_ident::Identity;
+use spm_manifest::{Manifest, ManifestFault};
 use spm_outside::{Desk, DeskFault};
-use spm_resolved::write;
+use spm_resolved::{Resolved, ResolvedFault, write};
 use spm_shelf::ShelfFile;
-use spm_version::{Bytes, NoMemory};
+use spm_version::{Bytes, Items, NoMemory, Release};
 use std::alloc::Global;
 
 /// The name of the root's manifest.
@@ -29,6 +33,24 @@ pub fn lock_name(alloc: Global, root: &str) -> Result<String, NoMemory>
     ensures { IfOk result (λ name. string_bytes name ≡ lock_name root.now) }
 {
     Ok(format!(in alloc; "{root}/Package.resolved")?)
+}
+
+/// Reads the root's manifest.
+fn read_manifest(alloc: Global, bytes: &[u8]) -> Result<Manifest, RootEnding>
+    ensures { Computes result (ready_manifest (manifest_of bytes.now)) }
+{
+    let manifest = match Manifest::read(alloc, bytes) {
+        Ok(manifest) => manifest,
+        Err(ManifestFault::At { place, kind }) => return Err(RootEnding::Unreadable(place, kind)),
+        Err(ManifestFault::Memory) => return Err(RootEnding::Memory),
+    };
+    if !fits_tools(manifest.tools()) {
+        return Err(RootEnding::TooNew(manifest.tools()));
+    }
+    if !is_built(&manifest) {
+        return Err(RootEnding::NotBuilt);
+    }
+    Ok(manifest)
 }
 
 /// Gets the root's manifest.
@@ -53,17 +75,32 @@ fn get_manifest<D: Desk>(
         Err(DeskFault::Failed) => return Err(RootEnding::Fault(RootCall::GetManifest)),
         Err(DeskFault::Memory) => return Err(RootEnding::Memory),
     };
-    match ready_manifest(alloc, bytes.as_slice()) {
-        Ok(Some(manifest)) => Ok((manifest, bytes)),
-        Ok(None) => Err(RootEnding::NotBuilt),
-        Err(NoMemory) => Err(RootEnding::Memory),
+    let manifest = match read_manifest(alloc, bytes.as_slice()) {
+        Ok(manifest) => manifest,
+        Err(ending) => return Err(ending),
+    };
+    Ok((manifest, bytes))
+}
+
+/// Reads the pins of the root's lock file.
+fn read_lock(alloc: Global, bytes: &[u8]) -> Result<Items<(Identity, Release)>, RootEnding>
+    ensures { Computes result (read_pins (resolved_of bytes.now)) }
+{
+    match Resolved::read(alloc, bytes) {
+        Ok(resolved) => Ok(resolved.pins),
+        Err(ResolvedFault::At { place, kind }) => Err(RootEnding::LockUnreadable(place, kind)),
+        Err(ResolvedFault::Memory) => Err(RootEnding::Memory),
     }
 }
 
-/// A lock file isn't read yet: it has to be absent.
-fn expect_no_lock<D: Desk>(alloc: Global, root: &str, desk: &mut D) -> Result<(), RootEnding>
+/// Gets the pins of the root's lock file; none where it is absent.
+fn get_pins<D: Desk>(
+    alloc: Global,
+    root: &str,
+    desk: &mut D,
+) -> Result<Items<(Identity, Release)>, RootEnding>
     ensures told { IfSome (D.files desk.old)
-        (λ files. Steps GetLock result (no_lock_in (map.get files (lock_name root.now)))) }
+        (λ files. Steps GetLock result (kept_in (map.get files (lock_name root.now)))) }
     ensures fault { FaultLeft (faulty_in_step root.now result)
         (record { files = D.files desk.old; failed = D.failed desk.old; faults = D.faults desk.old })
         (record { files = D.files desk.new; failed = D.failed desk.new; faults = D.faults desk.new }) }
@@ -73,10 +110,42 @@ fn expect_no_lock<D: Desk>(alloc: Global, root: &str, desk: &mut D) -> Result<()
         return Err(RootEnding::Memory);
     };
     match desk.get(name.as_str()) {
-        Ok(None) => Ok(()),
-        Ok(Some(_)) => Err(RootEnding::NotBuilt),
+        Ok(Some(bytes)) => read_lock(alloc, bytes.as_slice()),
+        Ok(None) => Ok(Items::new(alloc)),
         Err(DeskFault::Failed) => Err(RootEnding::Fault(RootCall::GetLock)),
         Err(DeskFault::Memory) => Err(RootEnding::Memory),
+    }
+}
+
+/// The ending of a root one of whose dependencies no release meets.
+fn refuted(alloc: Global, unmet: Unmet) -> RootEnding
+    ensures { IsRefuted result (unmet_view unmet.entry) }
+{
+    let Ok(identity) = unmet.identity.copy(alloc) else {
+        return RootEnding::Memory;
+    };
+    match unmet.requirement.copy(alloc) {
+        Ok(requirement) => RootEnding::Refuted(identity, requirement),
+        Err(NoMemory) => RootEnding::Memory,
+    }
+}
+
+/// The pins that are chosen.
+fn choose(
+    alloc: Global,
+    shelf: &ShelfFile,
+    manifest: &Manifest,
+    kept: &[(Identity, Release)],
+) -> Result<Vec<(Identity, Release)>, RootEnding>
+    ensures { ComputesBy (λ pins. pins.items) result (chosen_in shelf.now.packages manifest.now.needs kept.now) }
+{
+    if let Some(unmet) = last_unmet(shelf.packages.as_slice(), manifest.needs()) {
+        return Err(refuted(alloc, unmet));
+    }
+    match pins_of(alloc, shelf.packages.as_slice(), kept, manifest.needs()) {
+        Ok(Some(pins)) => Ok(pins),
+        Ok(None) => Err(RootEnding::NotBuilt),
+        Err(NoMemory) => Err(RootEnding::Memory),
     }
 }
 
@@ -86,13 +155,13 @@ fn lock_of(
     shelf: &ShelfFile,
     manifest: &Manifest,
     bytes: &Bytes,
+    kept: &[(Identity, Release)],
 ) -> Result<(Bytes, usize), RootEnding>
-    ensures { Computes result (lock_in shelf.now (manifest.now, bytes.now)) }
+    ensures { Computes result (lock_in shelf.now (manifest.now, bytes.now) kept.now) }
 {
-    let pins = match pins_of(alloc, shelf.packages.as_slice(), manifest.needs()) {
-        Ok(Some(pins)) => pins,
-        Ok(None) => return Err(RootEnding::NotBuilt),
-        Err(NoMemory) => return Err(RootEnding::Memory),
+    let pins = match choose(alloc, shelf, manifest, kept) {
+        Ok(pins) => pins,
+        Err(ending) => return Err(ending),
     };
     let origin = sum(bytes.as_slice());
     match write(alloc, &origin, pins.as_slice()) {
@@ -137,11 +206,11 @@ pub fn run_root<D: Desk>(alloc: Global, root: &str, shelf: &ShelfFile, desk: &mu
         Ok(found) => found,
         Err(ending) => return ending,
     };
-    match expect_no_lock(alloc, root, desk) {
-        Ok(()) => {}
+    let kept = match get_pins(alloc, root, desk) {
+        Ok(kept) => kept,
         Err(ending) => return ending,
-    }
-    match lock_of(alloc, shelf, &manifest, &bytes) {
+    };
+    match lock_of(alloc, shelf, &manifest, &bytes, kept.as_slice()) {
         Ok((text, count)) => put_lock(alloc, root, text, count, desk),
         Err(ending) => ending,
     }
