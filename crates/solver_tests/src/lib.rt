@@ -1,15 +1,19 @@
-//! Tests of `pub_set` over its public calls.
+//! Tests of `pub_set` and `pub_term` over their public calls.
 //!
-//! They stand here and not in the crate, since a crate with tests is proved twice. This crate has no code of its own.
+//! They stand here and not in the crates, since a crate with tests is proved twice. This crate has no code of its own.
 //!
 //! What holds of every input is a clause there. Here are
 //!
 //! - small sets by tables, worked out by hand: what is made of choices in any order, and each operation on two sets;
+//! - resolutions of small incompatibilities, what holds by what is known, and the order and texts of nodes, by tables too;
 //! - one run of each call that can answer want of memory, where there is memory;
 //! - a set of thousands of choices.
 //!
-//! A test is a loop over a table of cases, or a few calls in a row.
+//! A test is a loop over a table of cases, or a few calls in a row. Where a call asks something of its arguments, a helper
+//! finds out first whether it is so; `specs/Agreed.antt` says what a resolution asks term by term.
 #![tactic(auto)]
 
 #[cfg(test)]
 mod sets;
+#[cfg(test)]
+mod terms;

@@ -6,7 +6,7 @@ use std::alloc::Global;
 const SIZE: u32 = 5;
 
 // The set of the choices, or the one without choices where some choice is not below the size.
-fn made(alloc: Global, size: u32, choices: &[u32]) -> Result<Choices, NoMemory>
+pub(crate) fn made(alloc: Global, size: u32, choices: &[u32]) -> Result<Choices, NoMemory>
     ensures { IfOk result (λ set. set.size ≡ size) }
 {
     if choices.iter().all(|choice| *choice < size) {
@@ -30,7 +30,7 @@ fn set(alloc: Global, bits: u32) -> Result<Choices, NoMemory>
 }
 
 // The bits of the set's choices.
-fn bits(set: &Choices) -> u32 {
+pub(crate) fn bits(set: &Choices) -> u32 {
     let mut bits = 0;
     for choice in 0..SIZE {
         if set.has(choice) {

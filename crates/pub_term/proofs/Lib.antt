@@ -1,0 +1,5 @@
+pub mod AboveLemmas
+pub mod ResolventLemmas
+pub mod ProperLemmas
+pub mod StepLemmas
+pub mod SoundLemmas
