@@ -19,8 +19,8 @@ pub struct Direct {
     pub turns: usize,
 }
 
-/// One dependency, none, and two, of which the later identity is written first.
-pub fn direct_roots() -> [Direct; 3] {
+/// One dependency, none, none with the running tools, and two, of which the later identity is written first.
+pub fn direct_roots() -> [Direct; 4] {
     [
         Direct {
             manifest: r#"{"name":"app","dependencies":[{"registry":[{"identity":"mona.LinkedList","requirement":{"range":[{"lowerBound":"1.0.0","upperBound":"2.0.0"}]}}]}],"targets":[],"toolsVersion":{"_version":"5.9.0"}}"#,
@@ -45,6 +45,12 @@ pub fn direct_roots() -> [Direct; 3] {
         Direct {
             manifest: r#"{"name":"app","dependencies":[],"targets":[],"toolsVersion":{"_version":"5.9.0"}}"#,
             lock: "{\n  \"originHash\" : \"c8486d42269ad1c1895470ab6576e60509047c102f495e06b3719653335eceb6\",\n  \"pins\" : [\n\n  ],\n  \"version\" : 3\n}\n",
+            pins: 0,
+            turns: 4,
+        },
+        Direct {
+            manifest: r#"{"name":"app","toolsVersion":{"_version":"6.1.0"}}"#,
+            lock: "{\n  \"originHash\" : \"21fd5a464071a86c84a146d38606a1f266cca15d6bead3b2e54868222ad784a2\",\n  \"pins\" : [\n\n  ],\n  \"version\" : 3\n}\n",
             pins: 0,
             turns: 4,
         },
@@ -392,16 +398,25 @@ pub fn lock_of_one(alloc: Global, version: &str) -> Result<String, NoMemory> {
     )?)
 }
 
-/// Lock files that are none, and the place and the kind of their first fault.
+/// Lock files that are none, and the root's line.
 pub fn lock_refusals() -> [(&'static str, &'static str); 5] {
     [
-        ("", "/: not JSON"),
-        (r#"{"pins":[],"version":4}"#, "/version: bad version"),
-        (r#"{"pins":[],"version":2}"#, "/version: bad version"),
-        (r#"{"version":3}"#, "/pins: missing"),
+        ("", "Package.resolved is unreadable at /: not JSON"),
+        (
+            r#"{"pins":[],"version":4}"#,
+            "Package.resolved is unreadable at /version: bad version",
+        ),
+        (
+            r#"{"pins":[],"version":2}"#,
+            "Package.resolved is unreadable at /version: bad version",
+        ),
+        (
+            r#"{"version":3}"#,
+            "Package.resolved is unreadable at /pins: missing",
+        ),
         (
             r#"{"pins":[{"identity":"mona.linkedlist","kind":"registry","location":"","state":{"version":"1.0.0"}},{"identity":"mona.LinkedList","kind":"registry","location":"","state":{"version":"1.1.0"}}],"version":3}"#,
-            "/pins/1/identity: doubled",
+            "Package.resolved is unreadable at /pins/1/identity: doubled",
         ),
     ]
 }

@@ -1,9 +1,9 @@
 use crate::cases::{
     chosen_versions, direct_roots, newest_versions, shelf_refusals, three_packages, words_refused,
 };
+use crate::root::{Ends, Lock, Root, expect_root};
 use crate::stage::{
-    built_words, desk_of, desk_with, expect_left, expect_pinned, manifest_with, none, refused,
-    resolved, run, shelf_with,
+    built_words, desk_of, desk_with, expect_left, manifest_with, none, refused, run, shelf_with,
 };
 
 #[test]
@@ -11,10 +11,13 @@ fn direct_dependencies_are_pinned(rt: HostRuntime) {
     let alloc = rt.alloc();
     let shelf = three_packages(alloc).expect(&rt, "memory");
     for case in direct_roots() {
-        let desk = desk_of(alloc, shelf.as_str(), case.manifest, &[]).expect(&rt, "memory");
-        let left = run(&rt, alloc, &built_words(), desk, &[]).expect(&rt, "memory");
-        let report = resolved(alloc, case.pins, case.turns).expect(&rt, "memory");
-        expect_left(&rt, &left, 0, report.as_str(), Some(case.lock));
+        let root = Root {
+            manifest: case.manifest,
+            lock: None,
+            failing: &[],
+        };
+        let ends = Ends::Resolved(case.pins, case.turns);
+        expect_root(&rt, alloc, shelf.as_str(), root, ends, Lock::Is(case.lock));
     }
 }
 
@@ -24,9 +27,13 @@ fn the_newest_allowed_version_is_pinned(rt: HostRuntime) {
     for case in newest_versions() {
         let shelf = shelf_with(alloc, &case.versions).expect(&rt, "memory");
         let manifest = case.manifest(alloc).expect(&rt, "memory");
-        let desk = desk_of(alloc, shelf.as_str(), manifest.as_str(), &[]).expect(&rt, "memory");
-        let left = run(&rt, alloc, &built_words(), desk, &[]).expect(&rt, "memory");
-        expect_pinned(&rt, alloc, &left, case.pinned);
+        let root = Root {
+            manifest: manifest.as_str(),
+            lock: None,
+            failing: &[],
+        };
+        let (ends, lock) = (Ends::Resolved(1, 10), Lock::Pins(case.pinned));
+        expect_root(&rt, alloc, shelf.as_str(), root, ends, lock);
     }
 }
 
@@ -36,10 +43,13 @@ fn the_required_version_is_pinned(rt: HostRuntime) {
     let shelf = three_packages(alloc).expect(&rt, "memory");
     for (members, version) in chosen_versions() {
         let manifest = manifest_with(alloc, members).expect(&rt, "memory");
-        let desk = desk_of(alloc, shelf.as_str(), manifest.as_str(), &[]).expect(&rt, "memory");
-        let left = run(&rt, alloc, &built_words(), desk, &[]).expect(&rt, "memory");
-        assert_eq!(rt; left.status, 0, "{members}");
-        expect_pinned(&rt, alloc, &left, version);
+        let root = Root {
+            manifest: manifest.as_str(),
+            lock: None,
+            failing: &[],
+        };
+        let ends = Ends::Resolved(1, 10);
+        expect_root(&rt, alloc, shelf.as_str(), root, ends, Lock::Pins(version));
     }
 }
 

@@ -1,8 +1,9 @@
 ghost use Rattle.std.specs.Prelude.{None};
 
 use crate::cases::three_packages;
+use crate::root::{Ends, Lock, Root, expect_root};
 use crate::stage::{
-    built_words, desk_of, empty_book, expect_left, faulty, links_of, one, resolved, run, words_of,
+    built_words, desk_of, empty_book, expect_left, links_of, one, resolved, run, words_of,
 };
 use spm_outside::{OpenGate, Sink, SinkFault};
 use spm_tool::resolve;
@@ -39,11 +40,14 @@ fn each_fault_at_a_root_is_told(rt: HostRuntime) {
         (3, "app/Package.resolved: file fault"),
         (4, "app/Package.resolved: file fault"),
     ] {
-        let desk = desk_of(alloc, shelf.as_str(), one(), &[call]).expect(&rt, "memory");
-        let left = run(&rt, alloc, &built_words(), desk, &[]).expect(&rt, "memory");
-        let report = faulty(alloc, line).expect(&rt, "memory");
-        expect_left(&rt, &left, 4, report.as_str(), None);
-        assert_eq!(rt; left.desk.faults(), 1);
+        let failing = [call];
+        let root = Root {
+            manifest: one(),
+            lock: None,
+            failing: &failing,
+        };
+        let ends = Ends::Faulty(line);
+        expect_root(&rt, alloc, shelf.as_str(), root, ends, Lock::Absent);
     }
 }
 

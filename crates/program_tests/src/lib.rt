@@ -16,6 +16,8 @@ mod lock_files;
 #[cfg(test)]
 mod refusals;
 #[cfg(test)]
+mod root;
+#[cfg(test)]
 mod stage;
 #[cfg(test)]
 mod system;

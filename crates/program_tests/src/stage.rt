@@ -49,17 +49,6 @@ pub fn expect_left(rt: &impl Abort, left: &Left, status: u8, report: &str, lock:
     }
 }
 
-/// Asserts that the lock file that a run left pins this version.
-pub fn expect_pinned(rt: &impl Abort, alloc: Global, left: &Left, version: &str) {
-    let lock = left
-        .desk
-        .file("app/Package.resolved")
-        .expect(rt, "a lock file");
-    let line = format!(in alloc; "\"version\" : \"{version}\"\n").expect(rt, "memory");
-    let text = str::from_utf8(lock.as_slice()).expect(rt, "a text");
-    assert!(rt; text.contains(line.as_str()), "{version}");
-}
-
 /// What a run left.
 #[derive(Drop)]
 pub struct Left {
@@ -78,19 +67,6 @@ pub fn desk_of(
     let mut desk = MemoryDesk::new(alloc, failing)?;
     desk.set("s.json", shelf.as_bytes())?;
     desk.set("app/Package.json", manifest.as_bytes())?;
-    Ok(desk)
-}
-
-/// A desk with a shelf, a root's manifest and its lock file, whose calls with these numbers fail.
-pub fn locked_desk(
-    alloc: Global,
-    shelf: &str,
-    manifest: &str,
-    lock: &str,
-    failing: &[u64],
-) -> Result<MemoryDesk, NoMemory> {
-    let mut desk = desk_of(alloc, shelf, manifest, failing)?;
-    desk.set("app/Package.resolved", lock.as_bytes())?;
     Ok(desk)
 }
 
