@@ -1,4 +1,4 @@
-//! Tests of `pub_set` and `pub_term` over their public calls.
+//! Tests of `pub_set`, `pub_term` and `pub_proof` over their public calls.
 //!
 //! They stand here and not in the crates, since a crate with tests is proved twice. This crate has no code of its own.
 //!
@@ -6,6 +6,7 @@
 //!
 //! - small sets by tables, worked out by hand: what is made of choices in any order, and each operation on two sets;
 //! - resolutions of small incompatibilities, what holds by what is known, and the order and texts of nodes, by tables too;
+//! - derivations of three lines, each with the answer of `check`, by a table;
 //! - one run of each call that can answer want of memory, where there is memory;
 //! - a set of thousands of choices.
 //!
@@ -13,6 +14,8 @@
 //! finds out first whether it is so; `specs/Agreed.antt` says what a resolution asks term by term.
 #![tactic(auto)]
 
+#[cfg(test)]
+mod derivations;
 #[cfg(test)]
 mod sets;
 #[cfg(test)]

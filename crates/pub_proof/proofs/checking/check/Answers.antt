@@ -1,0 +1,10 @@
+use Rattle.std.proofs.Common.{length}
+use Rattle.pub_proof.specs.Checks.{terms_of}
+use Rattle.pub_proof.proofs.GoodLemmas.{follows_last}
+use Rattle.pub_proof.proofs.checking.check.Goals as goal
+
+pub returns-clause-sound : goal.returns-clause-sound
+returns-clause-sound c =
+    rw (← c.as_slice-sizes.ensures)
+    (follows_last c.last_line.result c.as_slice-sizes.result.now (terms_of c.args.facts.now) (terms_of c.as_slice-2.result.now) (length c.as_slice-2.result.now)
+    (length c.as_slice-2.result.now) (rw c.as_slice-2.ensures c.in_ok-all.ensures.good) c.last_line.ensures)

@@ -1,0 +1,117 @@
+ghost use Rattle.std.specs.Prelude.{◌≡◌, ◌+◌, ◌-◌, ◌^◌, ◌<◌, ◌≤◌, [], length, map, IfOk};
+ghost use Rattle.pub_proof.specs.Checked.{at_line, checked_of, is_refutation, last_in, line_in, lines_after, earlier_line};
+ghost use Rattle.pub_proof.specs.Checks.{Checks, ChecksAll, terms_of};
+ghost use Rattle.pub_proof.specs.Good.{AreGood, IsGood};
+ghost use Rattle.pub_proof.specs.Sound.{Follows};
+
+use crate::derivation::{Derivation, Line};
+use crate::fact::fact_line;
+use crate::fault::{ProofFault, ProofKind};
+use crate::resolving::{earlier_line, resolved_line};
+use pub_term::Incompat;
+use spm_version::Items;
+use std::alloc::Global;
+
+// What a line says, given the lines before it, or what is wrong with it.
+fn line_terms(
+    alloc: Global,
+    sizes: &[u32],
+    facts: &[Incompat],
+    earlier: &[Incompat],
+    place: usize,
+    line: &Line,
+    number: u64,
+) -> Result<Incompat, ProofFault>
+    requires { AreGood sizes.now (terms_of facts.now) (terms_of earlier.now) }
+    ensures checked { Checks result (at_line number (line_in sizes.now (terms_of facts.now) (terms_of earlier.now) line.now)) }
+    ensures good { IfOk result (λ incompat. IsGood sizes.now (terms_of facts.now) incompat.terms) }
+{
+    match line {
+        Line::Fact(incompat, _) => fact_line(alloc, sizes, facts, place, incompat, number),
+        Line::Resolve { first, second, on } => {
+            resolved_line(alloc, sizes, facts, earlier, (*first, *second), *on, number)
+        }
+    }
+}
+
+// The number of fact lines, with this line.
+fn place_after(place: usize, line: &Line) -> usize
+    requires { place < 2 ^ 64 - 1 }
+    ensures { result ≤ place + 1 }
+{
+    match line {
+        Line::Fact(_, _) => place + 1,
+        Line::Resolve { .. } => place,
+    }
+}
+
+// What all lines say, or the first bad line.
+#[tactic(auto, using(crate::proofs::GoodLemmas::length_terms_of))]
+fn all_lines(
+    alloc: Global,
+    sizes: &[u32],
+    facts: &[Incompat],
+    lines: &[Line],
+) -> Result<Items<Incompat>, ProofFault>
+    ensures checked { ChecksAll result (lines_after sizes.now (terms_of facts.now) [] lines.now) }
+    ensures good { IfOk result (λ all. AreGood sizes.now (terms_of facts.now) (terms_of all)) }
+{
+    let mut derived = Items::new(alloc);
+    let mut place = 0;
+    for line in lines {
+        let earlier = derived.as_slice();
+        let number = earlier.len() as u64 + 1;
+        let next = line_terms(alloc, sizes, facts, earlier, place, line, number)?;
+        derived.push(next)?;
+        place = place_after(place, line);
+    }
+    Ok(derived)
+}
+
+// Whether there is no term, or one on the root alone.
+fn is_refutation(incompat: &Incompat) -> bool
+    ensures { result ≡ is_refutation incompat.now.terms }
+{
+    for term in incompat.terms.as_slice() {
+        if term.node != 0 {
+            return false;
+        }
+    }
+    true
+}
+
+// What the last line says, if that is a refutation.
+fn last_line(alloc: Global, all: &[Incompat]) -> Result<Incompat, ProofFault>
+    ensures { Checks result (last_in (length all.now) (earlier_line (terms_of all.now) (length all.now))) }
+{
+    let kind = ProofKind::NotARefutation;
+    let line = all.len() as u64;
+    let Some(last) = earlier_line(all, line) else {
+        return Err(ProofFault::At { line: 0, kind });
+    };
+    if !is_refutation(last) {
+        return Err(ProofFault::At { line, kind });
+    }
+    let last = last.copy(alloc)?;
+    Ok(last)
+}
+
+/// Checks a derivation against the facts that it may use, and answers what its last line says.
+///
+/// # Errors
+///
+/// The first bad line with what is wrong with it, or the last line where it is no refutation; and want of memory.
+pub fn check(
+    alloc: Global,
+    derivation: &Derivation,
+    facts: &[Incompat],
+) -> Result<Incompat, ProofFault>
+    requires { length derivation.now.nodes ≡ length derivation.now.sizes }
+    ensures checked { Checks result (checked_of derivation.now.sizes (map (λ fact. fact.terms) facts.now) derivation.now.lines) }
+    // Whatever violates the last line violates one of the facts.
+    ensures sound { IfOk result (λ last. Follows derivation.now.sizes (map (λ fact. fact.terms) facts.now) last.terms) }
+{
+    let sizes = derivation.sizes.as_slice();
+    let all = all_lines(alloc, sizes, facts, derivation.lines.as_slice())?;
+    last_line(alloc, all.as_slice())
+}
