@@ -70,3 +70,36 @@ pub fn lock_of(alloc: Global, pins: u32) -> Result<String, AllocError> {
     text.push_str(r#"],"version":3}"#)?;
     Ok(text)
 }
+
+// A line of a derivation, as its file writes it: of each five lines three are facts, and the third and the fifth line
+// resolve lines before them.
+fn push_line(text: &mut String, number: u32) -> Result<(), AllocError> {
+    let first = u64::from(number / 5) * 5 + 1;
+    match number % 5 {
+        0 => text.push_str(r#"{"fact":[["root",[1]],["mona.a",[0,2]],["mona.b",[0,1]]]}"#),
+        1 => text.push_str(r#"{"fact":[["root",[1]],["mona.a",[0,1]],["mona.b",[1,2]]]}"#),
+        2 => {
+            let second = first + 1;
+            write!(text, r#"{{"on":"mona.a","resolve":[{first},{second}]}}"#)
+        }
+        3 => text.push_str(r#"{"fact":[["root",[1]],["mona.b",[0,2]]]}"#),
+        _ => {
+            let (third, fourth) = (first + 2, first + 3);
+            write!(text, r#"{{"on":"mona.b","resolve":[{third},{fourth}]}}"#)
+        }
+    }
+}
+
+/// A file of a derivation of so many lines.
+pub fn proof_of(alloc: Global, lines: u32) -> Result<String, AllocError> {
+    let mut text = String::from_str(alloc, r#"{"lines":["#)?;
+    for number in 0..lines {
+        if number != 0 {
+            text.push_str(",")?;
+        }
+        push_line(&mut text, number)?;
+    }
+    text.push_str(r#"],"nodes":[["root",3],["mona.a",3],["mona.b",3]],"version":1}"#)?;
+    text.push_str("\n")?;
+    Ok(text)
+}

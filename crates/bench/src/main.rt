@@ -5,6 +5,7 @@
 //! It promises nothing; the contracts are those of the libraries that it calls.
 #![tactic(auto)]
 
+mod derivations;
 mod inputs;
 mod pieces;
 

@@ -1,7 +1,11 @@
-use crate::inputs::{dump_of, lock_of};
+use crate::derivations::derivation_of;
+use crate::inputs::{dump_of, lock_of, proof_of};
+use pub_proof::{Derivation, ProofFault, check};
+use pub_term::Incompat;
 use spm_manifest::Manifest;
 use spm_resolved::Resolved;
 use spm_trait::{TraitName, closure};
+use spm_version::{Items, NoMemory};
 use std::alloc::{AllocError, AllocFailed, Global};
 use std::error::Error;
 use std::{fmt, io};
@@ -17,6 +21,12 @@ pub enum Piece {
     Pins,
     /// A lock file is read.
     Lock,
+    /// A derivation is made with its facts, and not checked.
+    Derivation,
+    /// A derivation is checked by its own facts.
+    Check,
+    /// A file of a derivation is read.
+    Proof,
 }
 
 impl Piece {
@@ -27,6 +37,9 @@ impl Piece {
             "manifest" => Some(Piece::Manifest),
             "pins" => Some(Piece::Pins),
             "lock" => Some(Piece::Lock),
+            "derivation" => Some(Piece::Derivation),
+            "check" => Some(Piece::Check),
+            "proof" => Some(Piece::Proof),
             _ => None,
         }
     }
@@ -38,6 +51,9 @@ impl Piece {
             Piece::Manifest => "manifest",
             Piece::Pins => "pins",
             Piece::Lock => "lock",
+            Piece::Derivation => "derivation",
+            Piece::Check => "check",
+            Piece::Proof => "proof",
         }
     }
 }
@@ -77,6 +93,12 @@ impl From<AllocError> for BenchError {
     }
 }
 
+impl From<NoMemory> for BenchError {
+    fn from(_e: NoMemory) -> BenchError {
+        BenchError::Refused
+    }
+}
+
 /// Reads the dump, and counts its needs and the closure of its first trait.
 fn read_dump(alloc: Global, text: &str) -> Result<usize, BenchError> {
     let Ok(manifest) = Manifest::read(alloc, text.as_bytes()) else {
@@ -100,19 +122,79 @@ fn read_lock(alloc: Global, text: &str) -> Result<usize, BenchError> {
     }
 }
 
+/// Reads the file of a derivation, and counts its lines.
+fn read_proof(alloc: Global, text: &str) -> Result<usize, BenchError> {
+    match Derivation::read(alloc, text.as_bytes()) {
+        Ok(derivation) => Ok(derivation.lines.as_slice().len()),
+        Err(_) => Err(BenchError::Refused),
+    }
+}
+
+/// Checks the derivation, and counts its lines up to the first bad one.
+fn check_lines(
+    alloc: Global,
+    derivation: &Derivation,
+    facts: &[Incompat],
+) -> Result<usize, BenchError> {
+    match check(alloc, derivation, facts) {
+        Ok(_) => Ok(derivation.lines.as_slice().len()),
+        Err(ProofFault::At { line, .. }) => Ok(line as usize),
+        Err(ProofFault::Memory) => Err(BenchError::Refused),
+    }
+}
+
+/// What is made once for a piece.
+#[derive(Drop)]
+enum Input {
+    /// A file.
+    Text(String),
+    /// A derivation, with its facts.
+    Lines(Derivation, Items<Incompat>),
+}
+
+impl Input {
+    /// The length of the file in bytes, or the number of lines.
+    fn size(&self) -> usize {
+        match self {
+            Input::Text(text) => text.len(),
+            Input::Lines(derivation, _) => derivation.lines.as_slice().len(),
+        }
+    }
+}
+
+/// The input of a piece at this size.
+fn input_of(alloc: Global, piece: Piece, size: u32) -> Result<Input, BenchError> {
+    match piece {
+        Piece::Dump | Piece::Manifest => Ok(Input::Text(dump_of(alloc, size)?)),
+        Piece::Pins | Piece::Lock => Ok(Input::Text(lock_of(alloc, size)?)),
+        Piece::Proof => Ok(Input::Text(proof_of(alloc, size)?)),
+        Piece::Derivation | Piece::Check => {
+            let derivation = derivation_of(alloc, size).ok_or(BenchError::Refused)?;
+            let facts = derivation.facts(alloc)?;
+            Ok(Input::Lines(derivation, facts))
+        }
+    }
+}
+
+/// Runs the piece once, and gives what it came to. What only makes an input comes to its size.
+fn run_once(alloc: Global, piece: Piece, input: &Input) -> Result<usize, BenchError> {
+    match (piece, input) {
+        (Piece::Manifest, Input::Text(text)) => read_dump(alloc, text.as_str()),
+        (Piece::Lock, Input::Text(text)) => read_lock(alloc, text.as_str()),
+        (Piece::Proof, Input::Text(text)) => read_proof(alloc, text.as_str()),
+        (Piece::Check, Input::Lines(derivation, facts)) => {
+            check_lines(alloc, derivation, facts.as_slice())
+        }
+        _ => Ok(input.size()),
+    }
+}
+
 /// Runs the piece at this size so many times, and gives what the last run came to.
 pub fn run_piece(alloc: Global, piece: Piece, size: u32, times: u32) -> Result<usize, BenchError> {
-    let text = match piece {
-        Piece::Dump | Piece::Manifest => dump_of(alloc, size)?,
-        Piece::Pins | Piece::Lock => lock_of(alloc, size)?,
-    };
-    let mut count = text.len();
+    let input = input_of(alloc, piece, size)?;
+    let mut count = input.size();
     for _ in 0..times {
-        count = match piece {
-            Piece::Dump | Piece::Pins => text.len(),
-            Piece::Manifest => read_dump(alloc, text.as_str())?,
-            Piece::Lock => read_lock(alloc, text.as_str())?,
-        };
+        count = run_once(alloc, piece, &input)?;
     }
     Ok(count)
 }

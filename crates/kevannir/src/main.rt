@@ -1,13 +1,15 @@
-//! The program: it hands the words behind its name to `spm_tool::resolve`, over the system's files
-//! and standard output, and ends with the status that it gives.
+//! The program: it hands the words behind its name to `spm_tool::resolve`, or to `spm_tool::still` for another command, over the
+//! system's files and standard output, and ends with the status that it gives.
 //!
-//! All that the program promises is the contract of that call; here the runtime alone is named.
+//! All that the program promises are the contracts of these calls, of which [`answer`] takes the one that the first word names;
+//! here alone the runtime is named.
 #![tactic(auto)]
 
-ghost use Rattle.std.specs.Prelude.{◌≡◌, IfOk, vec_len};
+ghost use Rattle.std.specs.Prelude.{◌≡◌, IfOk, map as map_list, string_bytes, vec_len};
+ghost use Rattle.kevannir.specs.Command.{Answers, is_resolve};
 
-use spm_outside::{Book, BookLink, FolderDesk, OpenGate, StdSink};
-use spm_tool::resolve;
+use spm_outside::{Book, BookLink, Desk, FolderDesk, Gate, Link, OpenGate, Sink, StdSink};
+use spm_tool::{resolve, still};
 use spm_version::{Bytes, Items, NoMemory};
 use std::alloc::Global;
 use std::env;
@@ -44,7 +46,40 @@ fn links<'b>(alloc: Global, book: &'b Book) -> Result<Vec<BookLink<'b>>, NoMemor
     Ok(links)
 }
 
-/// Hands the words to `resolve`, over the system's files and standard output.
+/// Whether the command is `resolve`.
+fn is_resolve(words: &[String]) -> bool
+    ensures { result ≡ is_resolve (map_list string_bytes words.now) }
+{
+    match words.first() {
+        Some(command) => command.as_str() == "resolve",
+        None => false,
+    }
+}
+
+/// Hands the words to the call of their command.
+fn answer<R: Threads + Wait + Sync, D: Desk, L: Link + Send, O: Sink, G: Gate>(
+    rt: &R,
+    alloc: Global,
+    words: &[String],
+    desk: &mut D,
+    links: &mut Vec<L>,
+    out: &mut O,
+    gate: &G,
+) -> u8
+    ensures { Answers (map_list string_bytes words.now)
+        (record { files = D.files desk.old; failed = D.failed desk.old; faults = D.faults desk.old })
+        (record { files = D.files desk.new; failed = D.failed desk.new; faults = D.faults desk.new })
+        (record { written = O.written out.old; faults = O.faults out.old })
+        (record { written = O.written out.new; faults = O.faults out.new }) result }
+{
+    if is_resolve(words) {
+        resolve(rt, alloc, words, desk, links, out, gate)
+    } else {
+        still(alloc, words, desk, out)
+    }
+}
+
+/// Answers the words over the system's files and standard output.
 fn run<R: Env + Files + Print + AllocGlobal + Threads + Wait + Sync>(
     rt: &R,
 ) -> Result<u8, NoMemory> {
@@ -54,7 +89,7 @@ fn run<R: Env + Files + Print + AllocGlobal + Threads + Wait + Sync>(
     let mut links = links(alloc, &book)?;
     let mut desk = FolderDesk::new(alloc, rt);
     let mut out = StdSink::new(rt);
-    Ok(resolve(
+    Ok(answer(
         rt,
         alloc,
         words.as_slice(),

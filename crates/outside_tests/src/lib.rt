@@ -4,7 +4,8 @@
 //!
 //! What holds of every input is a clause there. Here are
 //!
-//! - courses of calls over the objects in memory, with what each answers and leaves (`memory`);
+//! - courses of calls over the objects in memory, with what each answers and leaves (`memory`, and `connections` for exchanges,
+//!   peers and doors);
 //! - one run of each call that can answer want of memory, where there is memory;
 //! - the printed texts of the faults;
 //! - the files and the output of the system, of which no clause tells (`system`).
@@ -12,6 +13,8 @@
 //! A test is a loop over a table of cases, or a few calls in a row.
 #![tactic(auto)]
 
+#[cfg(test)]
+mod connections;
 #[cfg(test)]
 mod memory;
 #[cfg(test)]

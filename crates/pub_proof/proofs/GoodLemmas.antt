@@ -2,13 +2,13 @@
 use Rattle.std.proofs.Common.{◌≡◌, ◌≢◌, ◌⊎◌, ℕ, zero, suc, ◌<◌, ◌-◌, ◌==◌, Bool, true, false, not, ◌&&◌, nat_eq, nat_lt, List, [], ◌∷◌, ◌++◌, length, slice_get, slice_index, get_or, drop, ◌+◌, Option, Some, None, IfSome, IsSome, Result, Ok, Err, IfOk, is_ok, is_some, if◌then◌else◌, refl, sym, ap, ap₂, ◌∙◌, subst, inl, inr, arith, ne_eqb, eq-eqb}
 use Rattle.std.specs.List.{flat_map, list_all, list_any}
 use Rattle.std.specs.Cmp.Lexicographic.{pointwise}
-use Rattle.std.proofs.lemmas.Bool.{and_parts, cases_Bool, cond-false, cond-true, eqb-true, false≢true, lt-ltb, ltb-true, or_cases, or_left, or_right}
+use Rattle.std.proofs.lemmas.Bool.{and_from, and_parts, cases_Bool, cond-false, cond-true, eqb-true, false≢true, lt-ltb, ltb-true, or_cases, or_left, or_right}
 use Rattle.std.proofs.lemmas.List.{drop_more, length-map, map-append}
 use Rattle.std.proofs.lemmas.Map.Views.{Contains-from_any}
-use Rattle.pub_set.specs.Choices.{ChoiceSet, do_meet, is_empty, is_whole, same_set, union}
+use Rattle.pub_set.specs.Choices.{ChoiceSet, do_meet, has, is_empty, is_whole, same_set, union}
 use Rattle.pub_term.specs.Resolvent.{CanResolve, joined, nodes_of, resolvent, unless_whole, with_node}
 use Rattle.pub_term.specs.TermLaws.{same_term}
-use Rattle.pub_term.specs.Term.{AreNodesAscending, AreProper, IsIncompat, set_at}
+use Rattle.pub_term.specs.Term.{AreNodesAscending, AreProper, IsIncompat, set_at, violates}
 use Rattle.pub_term.specs.declared.term.Incompat.{Incompat}
 use Rattle.pub_term.specs.declared.term.Term.{Term}
 use Rattle.pub_term.proofs.AboveLemmas.{set_at-head, set_at-tail}
@@ -17,7 +17,7 @@ use Rattle.pub_proof.specs.Checked.{◌>>=◌, at_line, line_in, lines_after, ca
 use Rattle.pub_proof.specs.Checks.{Checks, terms_of}
 use Rattle.pub_proof.specs.Good.{AreGood, AreSized, IsFormed, IsGood, IsSized, SizesAgree}
 use Rattle.pub_proof.specs.Same.{same_terms}
-use Rattle.pub_proof.specs.Sound.{Follows}
+use Rattle.pub_proof.specs.Sound.{Follows, RefutesRoot}
 use Rattle.pub_proof.specs.declared.derivation.Line.{Line}
 use Rattle.pub_proof.specs.declared.fault.ProofFault.{ProofFault}
 use Rattle.pub_proof.specs.declared.fault.ProofKind.TheVariants.{NoSuchNode, BadSet, NotARefutation}
@@ -326,3 +326,32 @@ pub follows_last : (result : Result Incompat ProofFault) (sizes : List ℕ) (fac
 follows_last (Err fault) sizes facts all count number good says = tt
 follows_last (Ok last) sizes facts all count number good says =
     (good_earlier sizes facts all number last.terms good (sym (last_some count (earlier_line all number) last.terms says))).follows
+
+-- ---- the root
+
+violated_at_root : (assignment : ℕ → ℕ) (terms : List Term) → is_refutation terms ≡ true → list_all (λ (term : Term). has term.choices (assignment 0)) terms ≡ true
+    → violates assignment terms ≡ true
+violated_at_root assignment [] on_root chosen = refl
+violated_at_root assignment (term ∷ terms) on_root chosen =
+    let root = and_parts (term.node == 0) (is_refutation terms) on_root in
+    let here = and_parts (has term.choices (assignment 0)) (list_all (λ (t : Term). has t.choices (assignment 0)) terms) chosen in
+    and_from (has term.choices (assignment term.node)) (violates assignment terms)
+    (ap (λ (node : ℕ). has term.choices (assignment node)) (eqb-true term.node 0 root.0) ∙ here.0) (violated_at_root assignment terms root.1 here.1)
+
+refutation_from : (count : ℕ) (last : Option (List Term)) (terms : List Term) → last_in count last ≡ Ok terms → is_refutation terms ≡ true
+refutation_from count None terms says = absurd (false≢true (ap is_ok says))
+refutation_from count (Some last) terms says =
+    elim (cases_Bool (is_refutation last)) [
+      | inl is ↦
+          (let e : Ok last ≡ Ok terms = sym (cond-true (is_refutation last) (Ok last) (Err (record { line = count; kind = NotARefutation })) is) ∙ says in
+          let same : last ≡ terms = cc in
+          sym (ap is_refutation same) ∙ is)
+      | inr other ↦
+          absurd (false≢true (ap is_ok (sym (cond-false (is_refutation last) (Ok last) (Err (record { line = count; kind = NotARefutation })) other) ∙ says)))
+    ]
+
+pub refutes_last : (result : Result Incompat ProofFault) (sizes : List ℕ) (facts : List (List Term)) (count : ℕ) (last : Option (List Term))
+    → Checks result (last_in count last) → IfOk result (λ incompat. Follows sizes facts incompat.terms) → IfOk result (λ incompat. RefutesRoot sizes facts incompat.terms)
+refutes_last (Err fault) sizes facts count last says follows = tt
+refutes_last (Ok incompat) sizes facts count last says follows =
+    λ assignment is chosen. follows assignment is (violated_at_root assignment incompat.terms (refutation_from count last incompat.terms says) chosen)

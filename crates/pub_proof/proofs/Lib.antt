@@ -1,1 +1,4 @@
 pub mod GoodLemmas
+pub mod FileLemmas
+pub mod SortLemmas
+pub mod TextLemmas

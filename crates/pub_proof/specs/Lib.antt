@@ -4,3 +4,6 @@ pub mod Checked
 pub mod Sound
 pub mod Checks
 pub mod Good
+pub mod File
+pub mod Places
+pub mod ProofText

@@ -1,5 +1,7 @@
 -- What a checked derivation means: an assignment that violates its last line violates one of the facts.
 use Rattle.std.specs.Prelude.{◌≡◌, ℕ, ◌<◌, List, length, true, slice_index, Contains}
+use Rattle.std.specs.List.{list_all}
+use Rattle.pub_set.specs.Choices.{has}
 use Rattle.pub_term.specs.Term.{violates}
 use Rattle.pub_term.specs.declared.term.Term.{Term}
 
@@ -16,3 +18,9 @@ pub record ViolatesOne (facts : List (List Term)) (assignment : ℕ → ℕ) : T
 -- wherever the terms are violated, one of the facts is
 abbrev pub Follows : List ℕ → List (List Term) → List Term → Type 0
 Follows sizes facts terms = (assignment : ℕ → ℕ) → IsAssignment sizes assignment → violates assignment terms ≡ true → ViolatesOne facts assignment
+
+-- The terms are all on the root: so no assignment whose root has one of their choices leaves every fact unviolated. In a derivation that
+-- there is no selection, the choice is the root's being chosen, or there is no term, and so no assignment at all.
+abbrev pub RefutesRoot : List ℕ → List (List Term) → List Term → Type 0
+RefutesRoot sizes facts terms = (assignment : ℕ → ℕ) → IsAssignment sizes assignment
+    → list_all (λ term. has term.choices (assignment 0)) terms ≡ true → ViolatesOne facts assignment

@@ -2,7 +2,7 @@ ghost use Rattle.std.specs.Prelude.{◌≡◌, ◌+◌, ◌-◌, ◌^◌, ◌<�
 ghost use Rattle.pub_proof.specs.Checked.{at_line, checked_of, is_refutation, last_in, line_in, lines_after, earlier_line};
 ghost use Rattle.pub_proof.specs.Checks.{Checks, ChecksAll, terms_of};
 ghost use Rattle.pub_proof.specs.Good.{AreGood, IsGood};
-ghost use Rattle.pub_proof.specs.Sound.{Follows};
+ghost use Rattle.pub_proof.specs.Sound.{Follows, RefutesRoot};
 
 use crate::derivation::{Derivation, Line};
 use crate::fact::fact_line;
@@ -106,10 +106,11 @@ pub fn check(
     derivation: &Derivation,
     facts: &[Incompat],
 ) -> Result<Incompat, ProofFault>
-    requires { length derivation.now.nodes ≡ length derivation.now.sizes }
     ensures checked { Checks result (checked_of derivation.now.sizes (map (λ fact. fact.terms) facts.now) derivation.now.lines) }
     // Whatever violates the last line violates one of the facts.
     ensures sound { IfOk result (λ last. Follows derivation.now.sizes (map (λ fact. fact.terms) facts.now) last.terms) }
+    // So no assignment with the root chosen leaves every fact unviolated.
+    ensures refutes { IfOk result (λ last. RefutesRoot derivation.now.sizes (map (λ fact. fact.terms) facts.now) last.terms) }
 {
     let sizes = derivation.sizes.as_slice();
     let all = all_lines(alloc, sizes, facts, derivation.lines.as_slice())?;

@@ -1,4 +1,5 @@
 ghost use Rattle.std.specs.Prelude.{◌≡◌, IfOk};
+ghost use Rattle.pub_proof.specs.Checks.{own_facts, terms_of};
 
 use pub_term::{Cause, Incompat, NodeName};
 use spm_version::{Duplicate, Items, NoMemory};
@@ -65,6 +66,19 @@ fn copy_of_sizes(alloc: Global, sizes: &[u32]) -> Result<Items<u32>, NoMemory>
 }
 
 impl Derivation {
+    /// Its own facts: those of its fact lines, in their order.
+    pub fn facts(&self, alloc: Global) -> Result<Items<Incompat>, NoMemory>
+        ensures { IfOk result (λ facts. terms_of facts ≡ own_facts self.now.lines) }
+    {
+        let mut facts = Items::new(alloc);
+        for line in self.lines.as_slice() {
+            if let Line::Fact(incompat, _) = line {
+                facts.push(incompat.copy(alloc)?)?;
+            }
+        }
+        Ok(facts)
+    }
+
     /// A copy of the derivation.
     pub fn copy(&self, alloc: Global) -> Result<Derivation, NoMemory>
         ensures { IfOk result (λ derivation. derivation ≡ self.now) }

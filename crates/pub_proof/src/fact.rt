@@ -30,7 +30,7 @@ fn are_known(sizes: &[u32], terms: &[Term]) -> bool
 }
 
 // Whether the node is above the one before it.
-fn is_above(before: Option<u32>, node: u32) -> bool
+pub(crate) fn is_above(before: Option<u32>, node: u32) -> bool
     ensures { result ≡ is_above before node }
 {
     match before {

@@ -2,12 +2,13 @@
 //!
 //! A [`Derivation`] names nodes with the sizes of their sets of choices, and has lines: each is a fact, or the resolution of two
 //! earlier lines on a node. [`check`] goes through the lines once and answers what the last one says, or the first bad line with
-//! what is wrong with it ([`ProofFault`]). A derivation may come from anywhere, as from a file: all that is asked of it is as many
-//! sizes as nodes.
+//! what is wrong with it ([`ProofFault`]). A derivation may come from anywhere, as from a file, which [`Derivation::read`] reads and
+//! [`Derivation::text`] writes; nothing is asked of it.
 //!
 //! The contract that the layers above use is that of [`check`]. Its clause `checked` says the answer exactly (`checked_of` of
 //! `specs/Checked.antt`). Its clause `sound` says what a yes means: an assignment that gives each node one of its choices, and
-//! violates the last line, violates one of the facts that were given.
+//! violates the last line, violates one of the facts that were given; and its clause `refutes` what follows for the root. A file's bytes are read as `derivation_in` says
+//! (`specs/File.antt`), the first fault with its place and kind included, and written as `proof_text` (`specs/ProofText.antt`).
 //!
 //! How the proof goes:
 //!
@@ -16,14 +17,22 @@
 //! - So the sets on a node that two good lines share have one size, and the tests of a resolution make what `pub_term`'s `resolve`
 //!   asks. The resolvent is good again, by `pub_term`'s law of resolution (`proofs/GoodLemmas.antt`).
 //! - The loop over the lines keeps that what the lines so far say, with the lines that are left behind them, is what all lines say.
+//! - A file is read in two steps: the grammar, name by name (`written.rt`, `nodes.rt`), and then what its lines say by the numbers of
+//!   the nodes (`file.rt`). The map of the nodes' places agrees with the list (`proofs/FileLemmas.antt`), and a stable sort puts terms
+//!   in the order of their nodes (`proofs/SortLemmas.antt`).
 #![tactic(auto)]
 
 mod checking;
 mod derivation;
 mod fact;
 mod fault;
+mod file;
+mod file_text;
+mod nodes;
 mod resolving;
+mod written;
 
 pub use checking::check;
 pub use derivation::{Derivation, Line};
 pub use fault::{ProofFault, ProofKind};
+pub use spm_json::ReadFault as ProofFileFault;

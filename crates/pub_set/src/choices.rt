@@ -146,6 +146,14 @@ impl Choices {
         self.members.len() == self.size as usize
     }
 
+    /// Its choices, ascending.
+    pub fn to_vec(&self, alloc: Global) -> Result<Vec<u32>, NoMemory>
+        ensures { IfOk result (λ choices. choices.items ≡ self.now.members) }
+    {
+        let choices = Vec::from_slice(alloc, &self.members)?;
+        Ok(choices)
+    }
+
     /// A copy of the set.
     pub fn copy(&self, alloc: Global) -> Result<Choices, NoMemory>
         ensures { IfOk result (λ set. set ≡ self.now) }

@@ -82,12 +82,9 @@ fn derivation(alloc: Global, lines: Items<Line>) -> Option<Derivation> {
     })
 }
 
-// What a copy of the derivation comes to, where it may be checked.
+// What a copy of the derivation comes to.
 fn told(alloc: Global, derivation: &Derivation, facts: &[Incompat]) -> Option<String> {
     let derivation = derivation.copy(alloc).ok()?;
-    if derivation.nodes.as_slice().len() != derivation.sizes.as_slice().len() {
-        return None;
-    }
     match check(alloc, &derivation, facts) {
         Ok(_) => String::from_str(alloc, "holds").ok(),
         Err(fault) => format!(in alloc; "{fault}").ok(),

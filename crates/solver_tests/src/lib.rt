@@ -7,6 +7,8 @@
 //! - small sets by tables, worked out by hand: what is made of choices in any order, and each operation on two sets;
 //! - resolutions of small incompatibilities, what holds by what is known, and the order and texts of nodes, by tables too;
 //! - derivations of three lines, each with the answer of `check`, by a table;
+//! - files of derivations, by tables: what `check` answers of them by their own facts, or the place and the kind of their first
+//!   fault, what is written of them, and whether any item of one may be another;
 //! - one run of each call that can answer want of memory, where there is memory;
 //! - a set of thousands of choices.
 //!
@@ -16,6 +18,8 @@
 
 #[cfg(test)]
 mod derivations;
+#[cfg(test)]
+mod files;
 #[cfg(test)]
 mod sets;
 #[cfg(test)]

@@ -30,6 +30,16 @@ sole_in reading (d ∷ next ∷ others) = fault_here WrongKind
 abbrev pub sole_of : {A : Type 0} → (Data → Reading A) → Data → Reading A
 sole_of reading d = list_of d >>= λ ds. sole_in reading ds
 
+abbrev pub pair_in : {A B : Type 0} → (Data → Reading A) → (Data → Reading B) → List Data → Reading (A × B)
+pair_in first second [] = fault_here WrongKind
+pair_in first second (d ∷ []) = fault_here WrongKind
+pair_in first second (d ∷ e ∷ []) = at_index 0 (first d) >>= λ x. at_index 1 (second e) >>= λ y. Ok (x, y)
+pair_in first second (d ∷ e ∷ next ∷ others) = fault_here WrongKind
+
+-- a list of two items, each read so; a list of another length is of the wrong kind
+abbrev pub pair_of : {A B : Type 0} → (Data → Reading A) → (Data → Reading B) → Data → Reading (A × B)
+pair_of first second d = list_of d >>= λ ds. pair_in first second ds
+
 -- the members behind those that were read already
 abbrev pub members_after : {A : Type 0} → (List A → List ℕ → Data → Reading A) → List A → List (List ℕ × Data) → Reading (List A)
 members_after reading earlier [] = Ok earlier

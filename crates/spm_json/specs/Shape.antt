@@ -38,6 +38,10 @@ text_of d = or_fault WrongKind (as_str d)
 abbrev pub whole_number_of : Data → Reading ℕ
 whole_number_of d = or_fault WrongKind (option_and_then as_u64 (as_number d))
 
+-- an integer from 0 to 2^32 - 1
+abbrev pub small_number_of : Data → Reading ℕ
+small_number_of d = whole_number_of d >>= λ number. if nat_lt number 4294967296 then Ok number else fault_here WrongKind
+
 -- what the bytes of a whole document are read as, with places from its root
 abbrev pub whole_of : {A : Type 0} → (Data → Reading A) → List ℕ → Reading A
 whole_of reading bytes = in_document (document_of bytes >>= reading)

@@ -1,7 +1,7 @@
 ghost use Rattle.std.specs.Prelude.{[], map};
 ghost use Rattle.serde_json.specs.View.{view};
-ghost use Rattle.spm_json.specs.Reading.{Gives, within};
-ghost use Rattle.spm_json.specs.Sequence.{items_after, items_of, limited_items_of, members_of, sole_of};
+ghost use Rattle.spm_json.specs.Reading.{Gives, at_index, within};
+ghost use Rattle.spm_json.specs.Sequence.{items_after, items_of, limited_items_of, members_of, pair_of, sole_of};
 
 use crate::fault::ReadFault;
 use crate::from_json::{FromJson, FromMember};
@@ -93,5 +93,31 @@ pub fn sole_member<T: FromJson + Drop>(
     match sole(alloc, value) {
         Ok(x) => Ok(x),
         Err(fault) => Err(fault.under_key(alloc, key)),
+    }
+}
+
+// Reads the item at this place of a list.
+fn item_at<T: FromJson + Drop>(alloc: Global, index: usize, value: &Value) -> Result<T, ReadFault>
+    ensures { Gives result (at_index index (T.reading (view value.now))) }
+{
+    match T::from_json(alloc, value) {
+        Ok(x) => Ok(x),
+        Err(fault) => Err(fault.under_index(alloc, index)),
+    }
+}
+
+/// A list of two items. A list of another length is of the wrong kind.
+impl<A: FromJson + Drop, B: FromJson + Drop> FromJson for (A, B) {
+    ghost reading = { pair_of A.reading B.reading };
+
+    fn from_json(alloc: Global, value: &Value) -> Result<(A, B), ReadFault> {
+        match list(alloc, value)?.as_slice() {
+            [first, second] => {
+                let first = item_at(alloc, 0, first)?;
+                let second = item_at(alloc, 1, second)?;
+                Ok((first, second))
+            }
+            _ => Err(ReadFault::here(alloc, Kind::WrongKind)),
+        }
     }
 }

@@ -1,4 +1,4 @@
-ghost use Rattle.spm_json.specs.Shape.{text_of, whole_number_of};
+ghost use Rattle.spm_json.specs.Shape.{small_number_of, text_of, whole_number_of};
 ghost use Rattle.serde_json.specs.View.{view};
 ghost use Rattle.spm_json.specs.Object.{data_of};
 ghost use Rattle.spm_json.specs.Value.{identity_in, identity_reading, release_in, release_reading, tools_reading, trait_names_reading, trait_reading, version_field, version_reading};
@@ -29,6 +29,18 @@ impl FromJson for u64 {
 
     fn from_json(alloc: Global, value: &Value) -> Result<u64, ReadFault> {
         whole_number(alloc, value)
+    }
+}
+
+impl FromJson for u32 {
+    ghost reading = { small_number_of };
+
+    fn from_json(alloc: Global, value: &Value) -> Result<u32, ReadFault> {
+        let number = whole_number(alloc, value)?;
+        match u32::try_from(number) {
+            Ok(number) => Ok(number),
+            Err(_) => Err(ReadFault::here(alloc, Kind::WrongKind)),
+        }
     }
 }
 

@@ -1,3 +1,5 @@
 pub mod CallLemmas
 pub mod FileLemmas
 pub mod PutLemmas
+pub mod ExchangeLemmas
+pub mod PeerLemmas

@@ -7,3 +7,7 @@ pub mod Book
 pub mod Link
 pub mod Files
 pub mod Memory
+pub mod Exchange
+pub mod Peer
+pub mod Door
+pub mod Doorway

@@ -1,11 +1,12 @@
 -- What the objects in memory hold. Each tells all of it.
-use Rattle.std.specs.Prelude.{ℕ, List}
+use Rattle.std.specs.Prelude.{ℕ, List, drop, take}
 use Rattle.spm_outside.specs.Book.{Pages}
 use Rattle.spm_outside.specs.Names.{FileMap}
 use Rattle.spm_outside.specs.Schedule.{Plan}
 use Rattle.spm_outside.specs.declared.book_link.BookLink.{BookLink}
 use Rattle.spm_outside.specs.declared.link.Call.{Call}
 use Rattle.spm_outside.specs.declared.memory_desk.MemoryDesk.{MemoryDesk}
+use Rattle.spm_outside.specs.declared.memory_peer.MemoryPeer.{MemoryPeer}
 use Rattle.spm_outside.specs.declared.memory_sink.MemorySink.{MemorySink}
 
 -- the files of a desk, by their names
@@ -55,3 +56,22 @@ faults_of_link link = link.faults
 -- which of the link's opens and reads fail
 abbrev pub plan_of_link : BookLink → Plan
 plan_of_link link = link.schedule
+
+-- the bytes taken from a peer so far, and those that are left
+abbrev pub taken_of_peer : MemoryPeer → List ℕ
+taken_of_peer peer = take peer.taken peer.bytes.items
+
+abbrev pub rest_of_peer : MemoryPeer → List ℕ
+rest_of_peer peer = drop peer.taken peer.bytes.items
+
+-- the bytes written to a peer, in their order
+abbrev pub written_of_peer : MemoryPeer → List ℕ
+written_of_peer peer = peer.written.items
+
+-- how many reads and puts failed, up to the greatest u64
+abbrev pub faults_of_peer : MemoryPeer → ℕ
+faults_of_peer peer = peer.faults
+
+-- which of the peer's reads and puts fail
+abbrev pub plan_of_peer : MemoryPeer → Plan
+plan_of_peer peer = peer.schedule

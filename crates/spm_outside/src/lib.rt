@@ -1,4 +1,5 @@
-//! The outside of the programs as traits: files (`Desk`), output (`Sink`) and exchanges with registries (`Link`).
+//! The outside of the programs as traits: files (`Desk`), output (`Sink`), exchanges with registries (`Link`), and a server's
+//! connections (`Door`, `Peer`).
 //! A program is written over these, so that it runs over the system and, in a test, over objects in memory.
 //!
 //! - Each trait has meanings that an object tells or not: the files by their names, the bytes written, the book of
@@ -20,12 +21,16 @@
 mod book;
 mod book_link;
 mod desk;
+mod door;
 mod files;
 mod folder_desk;
 mod gate;
 mod link;
 mod memory_desk;
+mod memory_door;
+mod memory_peer;
 mod memory_sink;
+mod peer;
 mod schedule;
 mod sink;
 mod std_sink;
@@ -33,10 +38,14 @@ mod std_sink;
 pub use crate::book::{Authority, Book, Entry};
 pub use crate::book_link::BookLink;
 pub use crate::desk::{Desk, DeskFault};
+pub use crate::door::{Door, DoorFault};
 pub use crate::folder_desk::FolderDesk;
 pub use crate::gate::{Gate, OpenGate};
-pub use crate::link::{Call, Link, LinkFault};
+pub use crate::link::{Call, Link, LinkFault, exchange};
 pub use crate::memory_desk::MemoryDesk;
+pub use crate::memory_door::MemoryDoor;
+pub use crate::memory_peer::MemoryPeer;
 pub use crate::memory_sink::MemorySink;
+pub use crate::peer::{Peer, PeerFault};
 pub use crate::sink::{Sink, SinkFault, put_all};
 pub use crate::std_sink::StdSink;

@@ -1,5 +1,6 @@
-ghost use Rattle.std.specs.Prelude.{◌≡◌, ℕ, ◌<◌, List, length, Option, IsSome, IfOk, Some, codes};
-ghost use Rattle.spm_outside.specs.Book.{Pages};
+ghost use Rattle.std.specs.Prelude.{◌≡◌, ℕ, ◌<◌, ◌≤◌, List, length, take, Option, IsSome, IfOk, IfSome};
+ghost use Rattle.spm_outside.specs.Book.{Pages, response_of};
+ghost use Rattle.spm_outside.specs.Exchange.{CallsAfterExchange};
 ghost use Rattle.spm_outside.specs.Link.{LinkFaultsAfter, RestAfterOpen, RestAfterRead, calls_after_open, calls_after_read};
 ghost use Rattle.spm_outside.specs.declared.link.Call.{Call};
 ghost use Rattle.spm_outside.specs.declared.link.LinkFault.TheVariants.{Memory};
@@ -116,4 +117,52 @@ pub trait Link {
 
     /// Who tells its book tells all three.
     ghost tells_all: { (link : Self) → IsSome (book link) → IsSome (calls link) × IsSome (rest link) };
+}
+
+/// How many bytes are read at once.
+const PIECE: usize = 4096;
+
+/// One exchange: sends the request to the authority, and reads the response to its end, or its first `limit` bytes if it is longer.
+/// It opens the link once.
+///
+/// # Errors
+///
+/// `Failed` where the link failed, and `Memory`.
+pub fn exchange<L: Link>(
+    alloc: Global,
+    link: &mut L,
+    to: &Authority,
+    request: &[u8],
+    limit: u64,
+) -> Result<Bytes, LinkFault>
+    ensures response { IfOk result (λ bytes. IfSome (L.book link.old) (λ pages. bytes ≡ take limit (response_of pages to.now request.now))) }
+    ensures within { IfOk result (λ bytes. length bytes ≤ limit) }
+    ensures book { L.book link.new ≡ L.book link.old }
+    ensures calls { CallsAfterExchange result to.now request.now (L.calls link.old) (L.calls link.new) }
+    ensures faults { LinkFaultsAfter result (L.faults link.old) (L.faults link.new) }
+{
+    link.open(to, request)?;
+    read_all(alloc, link, limit)
+}
+
+// Reads what is left of the response, or the first `limit` bytes of it.
+fn read_all<L: Link>(alloc: Global, link: &mut L, limit: u64) -> Result<Bytes, LinkFault>
+    ensures response { IfOk result (λ bytes. IfSome (L.rest link.old) (λ rest. bytes ≡ take limit rest)) }
+    ensures within { IfOk result (λ bytes. length bytes ≤ limit) }
+    ensures book { L.book link.new ≡ L.book link.old }
+    ensures calls { L.calls link.new ≡ calls_after_read result (L.calls link.old) }
+    ensures faults { LinkFaultsAfter result (L.faults link.old) (L.faults link.new) }
+{
+    let limit = limit as usize;
+    let mut bytes = Vec::new(alloc);
+    let mut piece = [0; PIECE];
+    while bytes.len() < limit {
+        let wanted = PIECE.min(limit - bytes.len());
+        let count = link.read(&mut piece[..wanted])?;
+        if count == 0 {
+            return Ok(Bytes::from_vec(bytes));
+        }
+        bytes.extend_from_slice(&piece[..count])?;
+    }
+    Ok(Bytes::from_vec(bytes))
 }

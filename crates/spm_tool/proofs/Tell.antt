@@ -3,7 +3,10 @@ use Rattle.std.proofs.Common.{◌≡◌, ℕ, List, [], ◌++◌, Option, Some, 
 use Rattle.std.specs.Option.{option_map}
 use Rattle.spm_outside.specs.declared.sink.SinkFault.TheVariants as sink
 use Rattle.spm_tool.specs.Report.{root_status, shelf_status, status_after, status_of}
+use Rattle.spm_tool.specs.Check.{check_status}
 use Rattle.spm_tool.specs.Resolves.{SinkState, Tells}
+use Rattle.spm_tool.specs.declared.check.CheckEnding.{CheckEnding}
+use Rattle.spm_tool.specs.declared.check.CheckEnding.TheVariants as check
 use Rattle.spm_tool.specs.declared.ending.Ending.{Ending}
 use Rattle.spm_tool.specs.declared.ending.Ending.TheVariants as run
 use Rattle.spm_tool.specs.declared.ending.ShelfEnding.{ShelfEnding}
@@ -36,10 +39,24 @@ status_memory : (ending : Ending) → 6 ≡ status_after (status_of ending) (Err
 status_memory (run.Shelf ending) = shelf_memory ending
 status_memory (run.Root ending) = root_memory ending
 
-pub Tells-no_memory : (report : List ℕ) (ending : Ending) (state : SinkState) → Tells report (status_of ending) state state 6
-Tells-no_memory report ending state = record {
+Tells-nothing : (report : List ℕ) (status : ℕ) (state : SinkState) → 6 ≡ status_after status (Err sink.Memory) → Tells report status state state 6
+Tells-nothing report status state is = record {
   answer = Err sink.Memory;
   written = (0, omega arith, nothing_more state.written);
   faults = refl;
-  status_is = status_memory ending;
+  status_is = is;
 }
+
+pub Tells-no_memory : (report : List ℕ) (ending : Ending) (state : SinkState) → Tells report (status_of ending) state state 6
+Tells-no_memory report ending state = Tells-nothing report (status_of ending) state (status_memory ending)
+
+check_memory : (ending : CheckEnding) → 6 ≡ status_after (check_status ending) (Err sink.Memory)
+check_memory check.Missing = refl
+check_memory (check.Unreadable place kind) = refl
+check_memory check.Fault = refl
+check_memory (check.Holds lines) = refl
+check_memory (check.Fails line kind) = refl
+check_memory check.Memory = refl
+
+pub Tells-no_check : (report : List ℕ) (ending : CheckEnding) (state : SinkState) → Tells report (check_status ending) state state 6
+Tells-no_check report ending state = Tells-nothing report (check_status ending) state (check_memory ending)

@@ -9,3 +9,4 @@ pub mod Course
 pub mod Phase
 pub mod Report
 pub mod Resolves
+pub mod Check

@@ -1,10 +1,13 @@
-//! The top call of the program: from the words to the files, the report and the exit status.
+//! The top calls of the program: from the words to the files, the report and the exit status.
 //!
 //! The contract that `main` uses is the clause `run` of [`resolve`], which is `Resolves` of
 //! `specs/Resolves.antt`: the words decide whether anything is done (`order_of`); the bytes of the
 //! files decide how the run ends (`IsEnding`, by `root_ending` and `shelf_in`); the ending decides the
 //! files afterwards, the report and the status (`FilesLeft`, `report_of`, `status_of`). A fault of the
 //! desk or the sink is answered only where its count of faults rose, and want of memory is free.
+//!
+//! [`still`] does the same for the commands that wait for nobody, of which `check --proof FILE` is built: its clause `run` is `Still` of
+//! `specs/Check.antt`. A file's bytes decide whether the derivation in it holds by its own facts, as `pub_proof::check` says.
 //!
 //! What is chosen is a private part of this crate (`specs/Selection.antt`): of each direct dependency
 //! the pinned release where it is allowed, else the newest one that its requirement contains.
@@ -17,6 +20,7 @@
 //! `proofs/Tell.antt` the case where no report could be made.
 #![tactic(auto)]
 
+mod check;
 mod ending;
 mod laws;
 mod manifest;
@@ -27,6 +31,7 @@ mod shelf;
 mod top;
 mod words;
 
+pub use check::CheckEnding;
 pub use ending::{Ending, RootCall, RootEnding, ShelfEnding};
 pub use laws::{newest_is_above_all, pins_are_chosen};
-pub use top::resolve;
+pub use top::{resolve, still};

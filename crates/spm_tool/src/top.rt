@@ -1,5 +1,6 @@
 ghost use Rattle.std.specs.Prelude.{◌≡◌, IfSome, map as map_list, string_bytes};
 ghost use Rattle.std.specs.FinMap as map;
+ghost use Rattle.spm_tool.specs.Check.{Still};
 ghost use Rattle.spm_tool.specs.Course.{FaultLeft, FilesLeft, faulty_file};
 ghost use Rattle.spm_tool.specs.Ending.{IsEnding};
 ghost use Rattle.spm_tool.specs.Phase.{ReadsShelf, faulty_shelf};
@@ -7,11 +8,12 @@ ghost use Rattle.spm_tool.specs.Report.{report_of, status_of};
 ghost use Rattle.spm_tool.specs.Resolves.{Resolves, Tells};
 ghost use Rattle.spm_tool.specs.WordsView.{order_view};
 
+use crate::check::{check_file, tell_check};
 use crate::ending::{Ending, ShelfEnding};
 use crate::report::{report_of, status_of, tell};
 use crate::root::run_root;
 use crate::shelf::plain_shelf;
-use crate::words::{Order, read_words};
+use crate::words::{Order, read_check, read_words};
 use spm_outside::{Desk, DeskFault, Gate, Link, Sink};
 use spm_shelf::ShelfFile;
 use spm_version::NoMemory;
@@ -95,6 +97,29 @@ pub fn resolve<R: Threads + Wait + Sync, D: Desk, L: Link + Send, O: Sink, G: Ga
         Some(order) => {
             let ending = run(alloc, &order, desk);
             report(alloc, &order, &ending, out)
+        }
+        None => tell("words: not built yet\n", 2, out),
+    }
+}
+
+/// Does what the words of a command ask that waits for nobody, and gives the exit status.
+///
+/// The words are `check --proof FILE`: the derivation in the file is checked by the file's own facts. The line on it goes to
+/// `out`.
+///
+/// Statuses: 0 the derivation holds, 1 it fails, 2 words that aren't accepted, 3 the file is missing or unreadable, 4 a fault of
+/// the desk or the sink, 6 want of memory.
+pub fn still<D: Desk, O: Sink>(alloc: Global, words: &[String], desk: &mut D, out: &mut O) -> u8
+    ensures run { Still (map_list string_bytes words.now)
+        (record { files = D.files desk.old; failed = D.failed desk.old; faults = D.faults desk.old })
+        (record { files = D.files desk.new; failed = D.failed desk.new; faults = D.faults desk.new })
+        (record { written = O.written out.old; faults = O.faults out.old })
+        (record { written = O.written out.new; faults = O.faults out.new }) result }
+{
+    match read_check(words) {
+        Some(file) => {
+            let ending = check_file(alloc, file, desk);
+            tell_check(alloc, file, &ending, out)
         }
         None => tell("words: not built yet\n", 2, out),
     }

@@ -1,4 +1,5 @@
 ghost use Rattle.std.specs.Prelude.{◌≡◌, ℕ, List, map, option_map, string_bytes};
+ghost use Rattle.spm_tool.specs.Check.{checked_file};
 ghost use Rattle.spm_tool.specs.Words.{is_value, order_of};
 ghost use Rattle.spm_tool.specs.WordsView.{order_view};
 
@@ -21,7 +22,7 @@ fn is_value(word: &str) -> bool
     }
 }
 
-/// Reads the words, of which one form is built so far: `resolve --shelf FILE ROOT`.
+/// Reads the words of `resolve`, of which one form is built so far: `resolve --shelf FILE ROOT`.
 pub fn read_words(words: &[String]) -> Option<Order<'_>>
     ensures { option_map order_view result ≡ order_of (map string_bytes words.now) }
 {
@@ -35,6 +36,21 @@ pub fn read_words(words: &[String]) -> Option<Order<'_>>
         && is_value(root)
     {
         Some(Order { shelf, root })
+    } else {
+        None
+    }
+}
+
+/// Reads the words of a command that waits for nobody, of which one form is built so far: `check --proof FILE`. It gives the file.
+pub fn read_check(words: &[String]) -> Option<&str>
+    ensures { option_map (λ file. file.now) result ≡ checked_file (map string_bytes words.now) }
+{
+    let [command, option, file] = words else {
+        return None;
+    };
+    let file = file.as_str();
+    if command.as_str() == "check" && option.as_str() == "--proof" && is_value(file) {
+        Some(file)
     } else {
         None
     }

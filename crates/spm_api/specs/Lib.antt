@@ -1,0 +1,4 @@
+pub mod Bodies
+pub mod Reads
+pub mod Base
+pub mod Endpoint

@@ -1,0 +1,11 @@
+pub mod Meet
+pub mod Finish
+pub mod Heads
+pub mod Full
+pub mod Fronts
+pub mod Found
+pub mod Phrases
+pub mod Chunks
+pub mod ResponseHeads
+pub mod Lengths
+pub mod SizeLines

@@ -1,0 +1,16 @@
+//! What a registry is asked, and what it answers.
+//!
+//! A [`Key`] is one question: the list of a package's releases, a release's manifest, metadata or archive, or the identities of a
+//! URL. Its [`Key::text`] is the path at which the registry answers it, byte by byte `key_text` of `specs/Key.antt`. Keys have a
+//! total order, by kind and then by their parts, so that they can be sorted and looked up.
+//!
+//! A [`Reply`] is a status with a body; an archive's body may be kept as its SHA-256 and length alone. `specs/Catalogue.antt` has
+//! what the layers above speak of: a catalogue is a finite map from keys to replies, and one extends another if it holds all that
+//! the other holds, unchanged.
+#![tactic(auto)]
+
+mod key;
+mod reply;
+
+pub use key::Key;
+pub use reply::{Body, Reply};

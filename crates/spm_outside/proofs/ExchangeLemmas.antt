@@ -1,0 +1,66 @@
+-- Reading a response piece by piece.
+use Rattle.std.proofs.Common.{◌≡◌, ℕ, ◌+◌, ◌-◌, ◌≤◌, List, [], ◌++◌, length, take, drop, Option, Some, None, Ok, IfSome, option_map, refl, sym, ap, ap₂, ◌∙◌, subst, arith, length-append, length-drop, append-nil}
+use Rattle.std.proofs.Math.Seq.{take-add}
+use Rattle.std.proofs.lemmas.List.{drop-drop, length-take, length-take-le, take-append-le, take_all}
+use Rattle.spm_outside.specs.Link.{HandsOver, RestAfterRead}
+
+-- the bytes are those at the front of the first rest, and what is left is what stands behind them
+pub record IsReadSoFar (bytes : List ℕ) (first left : Option (List ℕ)) : Type 0 where
+  pub left_is : left ≡ option_map (λ rest. drop (length bytes) rest) first
+  pub front : IfSome first (λ rest. (length bytes ≤ length rest) × (bytes ≡ take (length bytes) rest))
+
+length_more : (bytes piece : List ℕ) (count : ℕ) → count ≤ length piece → length (bytes ++ take count piece) ≡ length bytes + count
+length_more bytes piece count within = length-append bytes (take count piece) ∙ ap (λ (n : ℕ). length bytes + n) (length-take-le count piece within)
+
+pub read_nothing : (first : Option (List ℕ)) → IsReadSoFar [] first first
+read_nothing None = record { left_is = refl; front = tt }
+read_nothing (Some rest) = record { left_is = refl; front = (omega arith, refl) }
+
+pub read_more : (bytes piece : List ℕ) (count : ℕ) (first left new : Option (List ℕ)) → IsReadSoFar bytes first left → RestAfterRead (Ok count) piece left new
+    → IsReadSoFar (bytes ++ take count piece) first new
+read_more bytes piece count None left new so_far read = record {
+  left_is = read.0 ∙ ap (option_map (λ rest. drop count rest)) so_far.left_is;
+  front = tt;
+}
+read_more bytes piece count (Some rest) left new so_far read =
+    let n = length bytes in
+    let hands : HandsOver (drop n rest) piece count = subst (λ l. IfSome l (λ r. HandsOver r piece count)) so_far.left_is read.2 in
+    let longer = length_more bytes piece count read.1 in
+    record {
+      left_is =
+          read.0 ∙ ap (option_map (λ r. drop count r)) so_far.left_is
+          ∙ ap Some (drop-drop count n rest ∙ ap (λ (k : ℕ). drop k rest) (sym longer));
+      front = (
+        (let within = hands.within in omega (arith, longer, within, length-drop n rest, so_far.front.0)),
+        (ap₂ ◌++◌ so_far.front.1 hands.bytes ∙ sym (take-add n count rest) ∙ ap (λ (k : ℕ). take k rest) (sym longer)),
+      );
+    }
+
+pub read_to_limit : (bytes : List ℕ) (limit : ℕ) (first left : Option (List ℕ)) → IsReadSoFar bytes first left → length bytes ≤ limit → limit ≤ length bytes
+    → IfSome first (λ rest. bytes ≡ take limit rest)
+read_to_limit bytes limit None left so_far within reached = tt
+read_to_limit bytes limit (Some rest) left so_far within reached = so_far.front.1 ∙ ap (λ (k : ℕ). take k rest) (omega (arith, within, reached))
+
+no_more : (n : ℕ) (rest : List ℕ) → n ≤ length rest → drop n rest ≡ [] → length rest ≡ n
+no_more n rest within none = omega (arith, within, length-drop n rest, ap length none)
+
+pub read_to_end : (bytes piece : List ℕ) (limit : ℕ) (first left new : Option (List ℕ)) → IsReadSoFar bytes first left → length bytes ≤ limit
+    → RestAfterRead (Ok 0) piece left new → IfSome first (λ rest. bytes ≡ take limit rest)
+read_to_end bytes piece limit None left new so_far within read = tt
+read_to_end bytes piece limit (Some rest) left new so_far within read =
+    let n = length bytes in
+    let hands : HandsOver (drop n rest) piece 0 = subst (λ l. IfSome l (λ r. HandsOver r piece 0)) so_far.left_is read.2 in
+    let whole = no_more n rest so_far.front.0 (hands.end refl) in
+    so_far.front.1 ∙ take_all n rest (omega (arith, whole)) ∙ sym (take_all limit rest (omega (arith, whole, within)))
+
+pub front_of : (count : ℕ) (piece behind : List ℕ) → count ≤ length piece → take count (piece ++ behind) ≡ take count piece
+front_of count piece behind within = take-append-le count piece behind within
+
+pub within_limit : (bytes piece old : List ℕ) (count wanted limit : ℕ) → count ≤ length piece → length piece ≡ length (take wanted old) → wanted ≤ limit - length bytes
+    → length bytes ≤ limit → length (bytes ++ take count piece) ≤ limit
+within_limit bytes piece old count wanted limit counted same small within =
+    let taken = length-take wanted old in
+    omega (arith, length_more bytes piece count counted, counted, same, small, within, taken)
+
+pub whole_again : (piece old : List ℕ) (wanted : ℕ) → length piece ≡ length (take wanted old) → length (piece ++ drop wanted old) ≡ length old
+whole_again piece old wanted same = omega (arith, length-append piece (drop wanted old), same, length-take wanted old, length-drop wanted old)
