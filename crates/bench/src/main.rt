@@ -8,6 +8,7 @@
 mod derivations;
 mod inputs;
 mod pieces;
+mod registry;
 
 use crate::pieces::{BenchError, Piece, run_piece};
 use std::env::Env;

@@ -1,11 +1,16 @@
 use crate::derivations::derivation_of;
 use crate::inputs::{dump_of, lock_of, proof_of};
+use crate::registry::{
+    answer_all, book_of, look_up, read_json, requests_of, shelf_file_of, shelf_of,
+};
 use pub_proof::{Derivation, ProofFault, check};
 use pub_term::Incompat;
 use spm_manifest::Manifest;
+use spm_outside::Book;
 use spm_resolved::Resolved;
+use spm_shelf::Shelf;
 use spm_trait::{TraitName, closure};
-use spm_version::{Items, NoMemory};
+use spm_version::{Bytes, Items, NoMemory};
 use std::alloc::{AllocError, AllocFailed, Global};
 use std::error::Error;
 use std::{fmt, io};
@@ -27,6 +32,16 @@ pub enum Piece {
     Check,
     /// A file of a derivation is read.
     Proof,
+    /// Each request of a book is looked up.
+    Lookup,
+    /// A shelf's file is read.
+    Shelf,
+    /// A shelf's file is read as JSON alone.
+    Json,
+    /// A request of one manifest of each package of a shelf is answered.
+    Answer,
+    /// A request of the list of each package of a shelf is answered.
+    List,
 }
 
 impl Piece {
@@ -40,6 +55,11 @@ impl Piece {
             "derivation" => Some(Piece::Derivation),
             "check" => Some(Piece::Check),
             "proof" => Some(Piece::Proof),
+            "lookup" => Some(Piece::Lookup),
+            "shelf" => Some(Piece::Shelf),
+            "json" => Some(Piece::Json),
+            "answer" => Some(Piece::Answer),
+            "list" => Some(Piece::List),
             _ => None,
         }
     }
@@ -54,6 +74,11 @@ impl Piece {
             Piece::Derivation => "derivation",
             Piece::Check => "check",
             Piece::Proof => "proof",
+            Piece::Lookup => "lookup",
+            Piece::Shelf => "shelf",
+            Piece::Json => "json",
+            Piece::Answer => "answer",
+            Piece::List => "list",
         }
     }
 }
@@ -150,16 +175,29 @@ enum Input {
     Text(String),
     /// A derivation, with its facts.
     Lines(Derivation, Items<Incompat>),
+    /// The replies of a registry.
+    Replies(Book),
+    /// A shelf, with requests to answer from it.
+    Stock(Shelf, Items<Bytes>),
 }
 
 impl Input {
-    /// The length of the file in bytes, or the number of lines.
+    /// The length of the file in bytes, or the number of lines, replies or packages.
     fn size(&self) -> usize {
         match self {
             Input::Text(text) => text.len(),
             Input::Lines(derivation, _) => derivation.lines.as_slice().len(),
+            Input::Replies(book) => book.entries().len(),
+            Input::Stock(shelf, _) => shelf.packages().len(),
         }
     }
+}
+
+/// A shelf of so many packages, with a request of what stands behind this end of each one's path.
+fn stock_of(alloc: Global, packages: u32, end: &str) -> Result<Input, BenchError> {
+    let text = shelf_file_of(alloc, packages)?;
+    let shelf = shelf_of(alloc, text.as_str())?;
+    Ok(Input::Stock(shelf, requests_of(alloc, packages, end)?))
 }
 
 /// The input of a piece at this size.
@@ -173,6 +211,10 @@ fn input_of(alloc: Global, piece: Piece, size: u32) -> Result<Input, BenchError>
             let facts = derivation.facts(alloc)?;
             Ok(Input::Lines(derivation, facts))
         }
+        Piece::Lookup => Ok(Input::Replies(book_of(alloc, size)?)),
+        Piece::Shelf | Piece::Json => Ok(Input::Text(shelf_file_of(alloc, size)?)),
+        Piece::Answer => stock_of(alloc, size, "/1.0.7/Package.json"),
+        Piece::List => stock_of(alloc, size, ""),
     }
 }
 
@@ -185,6 +227,12 @@ fn run_once(alloc: Global, piece: Piece, input: &Input) -> Result<usize, BenchEr
         (Piece::Check, Input::Lines(derivation, facts)) => {
             check_lines(alloc, derivation, facts.as_slice())
         }
+        (Piece::Lookup, Input::Replies(book)) => Ok(look_up(book)),
+        (Piece::Shelf, Input::Text(text)) => {
+            Ok(shelf_of(alloc, text.as_str())?.packages().len())
+        }
+        (Piece::Json, Input::Text(text)) => read_json(alloc, text.as_str()),
+        (_, Input::Stock(shelf, requests)) => { Ok(answer_all(alloc, shelf, requests.as_slice())?) }
         _ => Ok(input.size()),
     }
 }

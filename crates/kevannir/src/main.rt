@@ -85,7 +85,7 @@ fn run<R: Env + Files + Print + AllocGlobal + Threads + Wait + Sync>(
 ) -> Result<u8, NoMemory> {
     let alloc = rt.alloc();
     let words = words(rt)?;
-    let book = Book::new(Items::new(alloc), Bytes::from_vec(Vec::new(alloc)));
+    let book = Book::new(alloc, Items::new(alloc), Bytes::from_vec(Vec::new(alloc)))?;
     let mut links = links(alloc, &book)?;
     let mut desk = FolderDesk::new(alloc, rt);
     let mut out = StdSink::new(rt);

@@ -1,7 +1,7 @@
+use crate::support::told_reply;
 use spm_api::{Base, BaseFault, fetch, reply_of, request_of};
-use spm_digest::hex_of;
 use spm_ident::Identity;
-use spm_key::{Body, Key, Reply};
+use spm_key::Key;
 use spm_outside::{Book, BookLink, Entry, LinkFault};
 use spm_version::{Bytes, Items, Release};
 use std::alloc::Global;
@@ -81,23 +81,6 @@ fn requests_are_written(rt: HostRuntime) {
     }
 }
 
-// The status, and what the body is.
-fn told_reply(alloc: Global, reply: &Reply) -> Option<String> {
-    let status = reply.status;
-    match &reply.body {
-        Body::Whole(bytes) => {
-            let length = bytes.as_slice().len();
-            format!(in alloc; "{status} whole {length}").ok()
-        }
-        Body::Sum { sum, length } => {
-            let sum = hex_of(alloc, sum).ok()?;
-            format!(in alloc; "{status} {sum} {length}").ok()
-        }
-        Body::Garbled => format!(in alloc; "{status} garbled").ok(),
-        Body::TooLong => format!(in alloc; "{status} too long").ok(),
-    }
-}
-
 fn told_response(alloc: Global, key: &Key, response: &str) -> Option<String> {
     let reply = reply_of(alloc, key, response.as_bytes()).ok()?;
     told_reply(alloc, &reply)
@@ -152,7 +135,8 @@ fn book(alloc: Global, base: &Base, key: &Key) -> Option<Book> {
     };
     let mut entries = Items::new(alloc);
     entries.push(entry).ok()?;
-    Some(Book::new(entries, Bytes::from_slice(alloc, b"x").ok()?))
+    let other = Bytes::from_slice(alloc, b"x").ok()?;
+    Book::new(alloc, entries, other).ok()
 }
 
 // What a fetch of the key tells, over a link whose calls with these numbers fail.

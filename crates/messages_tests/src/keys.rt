@@ -1,41 +1,7 @@
-use spm_ident::Identity;
+use crate::support::{Asked, key};
 use spm_key::{Body, Key, Reply};
-use spm_version::{Bytes, NoMemory, Release, Text};
+use spm_version::{Bytes, NoMemory};
 use std::alloc::Global;
-
-// A kind of key, an identity and a version, or a URL.
-#[derive(Clone, Copy)]
-enum Asked {
-    List(&'static str),
-    Manifest(&'static str, &'static str),
-    Release(&'static str, &'static str),
-    Archive(&'static str, &'static str),
-    Identifiers(&'static str),
-}
-
-fn identity(alloc: Global, text: &str) -> Option<Identity> {
-    Identity::parse(alloc, text).ok()
-}
-
-fn release(alloc: Global, text: &str) -> Option<Release> {
-    Release::parse(alloc, text).ok()
-}
-
-fn key(alloc: Global, asked: Asked) -> Option<Key> {
-    match asked {
-        Asked::List(id) => Some(Key::List(identity(alloc, id)?)),
-        Asked::Manifest(id, version) => {
-            Some(Key::Manifest(identity(alloc, id)?, release(alloc, version)?))
-        }
-        Asked::Release(id, version) => {
-            Some(Key::Release(identity(alloc, id)?, release(alloc, version)?))
-        }
-        Asked::Archive(id, version) => {
-            Some(Key::Archive(identity(alloc, id)?, release(alloc, version)?))
-        }
-        Asked::Identifiers(url) => Some(Key::Identifiers(Text::from_str(alloc, url).ok()?)),
-    }
-}
 
 // In ascending order.
 fn keys() -> [(Asked, &'static str); 10] {

@@ -23,7 +23,7 @@ fn book(alloc: Global, length: usize) -> Result<Book, NoMemory> {
     };
     let mut entries = Items::new(alloc);
     entries.push(entry)?;
-    Ok(Book::new(entries, bytes(alloc, b"other")?))
+    Book::new(alloc, entries, bytes(alloc, b"other")?)
 }
 
 // The length of the response to the request, with a limit, over a link whose calls with these numbers fail; and the calls made.

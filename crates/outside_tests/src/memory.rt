@@ -153,7 +153,7 @@ fn book(alloc: Global) -> Result<Book, NoMemory> {
     ] {
         entries.push(entry(alloc, port, request, response)?)?;
     }
-    Book::new(entries, bytes(alloc, "not found")?).copy(alloc)
+    Book::new(alloc, entries, bytes(alloc, "not found")?)?.copy(alloc)
 }
 
 fn open(alloc: Global, link: &mut BookLink, port: u16, request: &str) -> Result<(), LinkFault> {

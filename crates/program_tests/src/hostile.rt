@@ -96,7 +96,7 @@ fn a_slow_sink_gets_the_whole_report(rt: HostRuntime) {
     let alloc = rt.alloc();
     let shelf = three_packages(alloc).expect(&rt, "memory");
     let words = words_of(alloc, &built_words()).expect(&rt, "memory");
-    let book = empty_book(alloc);
+    let book = empty_book(alloc).expect(&rt, "memory");
     let mut links = links_of(alloc, &book).expect(&rt, "memory");
     let mut desk = desk_of(alloc, shelf.as_str(), one(), &[]).expect(&rt, "memory");
     let mut out = ByteSink {

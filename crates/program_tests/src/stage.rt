@@ -115,8 +115,8 @@ pub fn links_of<'b>(alloc: Global, book: &'b Book) -> Result<Vec<BookLink<'b>>, 
 }
 
 /// A book without entries.
-pub fn empty_book(alloc: Global) -> Book {
-    Book::new(Items::new(alloc), Bytes::from_vec(Vec::new(alloc)))
+pub fn empty_book(alloc: Global) -> Result<Book, NoMemory> {
+    Book::new(alloc, Items::new(alloc), Bytes::from_vec(Vec::new(alloc)))
 }
 
 /// Runs the words over the desk, with a sink whose calls with these numbers fail.
@@ -128,7 +128,7 @@ pub fn run<R: Threads + Wait + Sync>(
     sink_failing: &[u64],
 ) -> Result<Left, NoMemory> {
     let words = words_of(alloc, words)?;
-    let book = empty_book(alloc);
+    let book = empty_book(alloc)?;
     let mut links = links_of(alloc, &book)?;
     let mut out = MemorySink::new(alloc, sink_failing)?;
     let status = resolve(

@@ -68,7 +68,7 @@ fn run_in<R: Threads + Wait + Sync>(
     words: &[String],
     desk: &mut impl Desk,
 ) -> Result<u8, NoMemory> {
-    let book = empty_book(alloc);
+    let book = empty_book(alloc)?;
     let mut links = links_of(alloc, &book)?;
     let mut out = MemorySink::new(alloc, &[])?;
     Ok(resolve(rt, alloc, words, desk, &mut links, &mut out, &OpenGate))

@@ -102,10 +102,7 @@ fn releases_are_read(rt: HostRuntime) -> Result<(), Fail> {
         assert_eq!(rt; text, problem, "problem of {release}");
         let text = found.manifest.as_ref().map(|text| text.as_str());
         assert_eq!(rt; text, manifest, "manifest of {release}");
-        let bytes = found
-            .archive
-            .as_ref()
-            .map(|archive| archive.bytes.as_slice());
+        let bytes = found.archive.as_ref().map(|archive| archive.bytes());
         assert_eq!(rt; bytes, archive, "archive of {release}");
         let sum = found.checksum.as_ref().map(|checksum| checksum.sum);
         assert_eq!(rt; sum, checksum, "checksum of {release}");
@@ -177,8 +174,8 @@ fn the_first_fault_of_a_shelf_is_told(rt: HostRuntime) {
     for (json, place, kind) in [
         (r#"{"packages":{}}"#, "", None),
         (r#"{"packages":{},"urls":null}"#, "", None),
-        (r#"{"packages":{"#, "", Some(Kind::NotJson)),
-        (r#"[]"#, "", Some(Kind::WrongKind)),
+        (r#"{"packages":{"#, "/", Some(Kind::NotJson)),
+        (r#"[]"#, "/", Some(Kind::WrongKind)),
         (r#"{"urls":[]}"#, "/packages", Some(Kind::Missing)),
         (r#"{"packages":[]}"#, "/packages", Some(Kind::WrongKind)),
         (r#"{"packages":null}"#, "/packages", Some(Kind::WrongKind)),

@@ -1,6 +1,6 @@
 -- The endpoints of a registry: the request for a key, and the reply that a response is (SE-0292 and the registry's service
 -- specification).
-use Rattle.std.specs.Prelude.{◌≡◌, ℕ, ◌==◌, List, [], ◌∷◌, ◌++◌, length, codes, Ok, if◌then◌else◌}
+use Rattle.std.specs.Prelude.{◌≡◌, ℕ, ◌==◌, List, ◌++◌, length, codes, Ok, if◌then◌else◌}
 use Rattle.std.specs.Fmt.{decimal}
 use Rattle.spm_digest.specs.Digest.{sha256}
 use Rattle.spm_http.specs.Response.{Hears}

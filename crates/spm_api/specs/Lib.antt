@@ -2,3 +2,5 @@ pub mod Bodies
 pub mod Reads
 pub mod Base
 pub mod Endpoint
+pub mod Refused
+pub mod Guess

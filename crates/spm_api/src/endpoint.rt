@@ -1,6 +1,9 @@
 ghost use Rattle.std.specs.Prelude.{◌≡◌, ◌+◌, ◌*◌, ◌≤◌, IfOk, IfSome, string_bytes};
+ghost use Rattle.std.specs.FinMap as map;
+ghost use Rattle.spm_key.specs.Catalogue.{Catalogue};
+ghost use Rattle.spm_api.specs.Refused.{ComesFrom};
 ghost use Rattle.spm_outside.specs.Book.{response_of};
-ghost use Rattle.spm_outside.specs.Exchange.{CallsAfterExchange};
+ghost use Rattle.spm_outside.specs.Exchange.{CallsAfterExchange, RestAfterExchange};
 ghost use Rattle.spm_outside.specs.Link.{LinkFaultsAfter};
 ghost use Rattle.spm_api.specs.Endpoint.{IsReply, accept_for, archive_reply, content_reply, heard_reply, host_field, limit_for, request_for};
 
@@ -148,6 +151,12 @@ pub fn fetch<L: Link>(
     // Where the link tells its book, the reply is that of the book's response.
     ensures reply { IfOk result (λ reply. IfSome (L.book link.old)
         (λ pages. IsReply key.now (response_of pages base.now.to (request_for base.now key.now)) reply)) }
+    // A catalogue that comes from the book still does with this reply.
+    ensures catalogue { IfOk result (λ reply. IfSome (L.book link.old) (λ pages. (catalogue : Catalogue)
+        → ComesFrom catalogue pages base.now → ComesFrom (map.insert catalogue key.now reply) pages base.now)) }
+    // Of the response at most twice the limit and 65,537 bytes are read.
+    ensures rest { RestAfterExchange result (L.book link.old) base.now.to (request_for base.now key.now) (2 * limit_for key.now + 65537)
+        (L.rest link.old) (L.rest link.new) }
     ensures book { L.book link.new ≡ L.book link.old }
     ensures calls { CallsAfterExchange result base.now.to (request_for base.now key.now) (L.calls link.old) (L.calls link.new) }
     ensures faults { LinkFaultsAfter result (L.faults link.old) (L.faults link.new) }

@@ -1,12 +1,13 @@
 -- The set of bytes that are escaped is that of the definition.
-use Rattle.std.proofs.Common.{◌≡◌, ℕ, ◌<◌, ◌/◌, ◌%◌, Bool, true, false, not, List, [], ◌∷◌, ◌++◌, if◌then◌else◌, refl, ap, ap₂, ◌∙◌, arith}
+use Rattle.std.proofs.Common.{◌≡◌, ℕ, ◌<◌, ◌/◌, ◌%◌, Bool, true, false, not, List, [], ◌∷◌, ◌++◌, if◌then◌else◌, refl, sym, ap, ap₂, ◌∙◌, arith}
 use Rattle.std.specs.Fmt.{digit_glyph}
 use Rattle.std.specs.List.{All, flat_map}
 use Rattle.std.proofs.lemmas.Bool.{agree_below, agree_below_at}
 use Rattle.std.proofs.lemmas.List.Elements.{All-head, All-tail}
 use Rattle.percent_encoding.proofs.OnLiterals.{percent_encoding_on_literals}
 use Rattle.percent_encoding.specs.AsciiSet.{should_percent_encode}
-use Rattle.percent_encoding.specs.Percent.{encode_byte, percent_encode, percent_encode_byte}
+use Rattle.percent_encoding.proofs.PercentLemmas.{round_trip}
+use Rattle.percent_encoding.specs.Percent.{encode_byte, percent_decode, percent_encode, percent_encode_byte}
 use Rattle.spm_key.specs.declared.key.TheConstants.{ESCAPED}
 use Rattle.spm_key.specs.Key.{encoded, encoded_byte, escaped, is_unreserved}
 
@@ -33,3 +34,8 @@ unfolding percent_encode
 same_text [] all = refl
 same_text (byte ∷ text) all =
     ap₂ ◌++◌ (same_byte byte (All-head (λ b. b < 256) byte text all)) (same_text text (All-tail (λ b. b < 256) byte text all))
+
+-- what is escaped so is read back
+pub decoded : (text : List ℕ) → All (λ byte. byte < 256) text → percent_decode (encoded text) ≡ text
+unfolding percent_encoding_on_literals
+decoded text all = ap percent_decode (sym (same_text text all)) ∙ round_trip ESCAPED text refl all

@@ -1,8 +1,13 @@
 -- Reading a response piece by piece.
-use Rattle.std.proofs.Common.{◌≡◌, ℕ, ◌+◌, ◌-◌, ◌≤◌, List, [], ◌++◌, length, take, drop, Option, Some, None, Ok, IfSome, option_map, refl, sym, ap, ap₂, ◌∙◌, subst, arith, length-append, length-drop, append-nil}
+use Rattle.std.proofs.Common.{◌≡◌, ℕ, ◌+◌, ◌-◌, ◌≤◌, List, [], ◌++◌, length, take, drop, Option, Some, None, Result, Ok, Err, IfSome, option_map, refl, sym, ap, ap₂, ◌∙◌, subst, inr, arith, length-append, length-drop}
 use Rattle.std.proofs.Math.Seq.{take-add}
-use Rattle.std.proofs.lemmas.List.{drop-drop, length-take, length-take-le, take-append-le, take_all}
+use Rattle.std.proofs.lemmas.List.{drop-drop, drop_all, length-take, length-take-le, take-append-le, take_all}
+use Rattle.spm_outside.specs.Book.{Pages, response_of}
+use Rattle.spm_outside.specs.Exchange.{RestAfterExchange, RestAfterReads}
 use Rattle.spm_outside.specs.Link.{HandsOver, RestAfterRead}
+use Rattle.spm_outside.specs.declared.book.Authority.{Authority}
+use Rattle.spm_outside.specs.declared.link.LinkFault.{LinkFault}
+use Rattle.spm_outside.specs.declared.link.LinkFault.TheVariants.{Failed, Memory}
 
 -- the bytes are those at the front of the first rest, and what is left is what stands behind them
 pub record IsReadSoFar (bytes : List ℕ) (first left : Option (List ℕ)) : Type 0 where
@@ -52,6 +57,34 @@ read_to_end bytes piece limit (Some rest) left new so_far within read =
     let hands : HandsOver (drop n rest) piece 0 = subst (λ l. IfSome l (λ r. HandsOver r piece 0)) so_far.left_is read.2 in
     let whole = no_more n rest so_far.front.0 (hands.end refl) in
     so_far.front.1 ∙ take_all n rest (omega (arith, whole)) ∙ sym (take_all limit rest (omega (arith, whole, within)))
+
+-- where nothing more comes, nothing is left, behind the limit either
+pub left_at_end : (bytes piece : List ℕ) (limit : ℕ) (first left new : Option (List ℕ)) → IsReadSoFar bytes first left → length bytes ≤ limit
+    → RestAfterRead (Ok 0) piece left new → new ≡ option_map (λ rest. drop limit rest) first
+left_at_end bytes piece limit None left new so_far within read = read.0 ∙ ap (option_map (λ rest. drop 0 rest)) so_far.left_is
+left_at_end bytes piece limit (Some rest) left new so_far within read =
+    let n = length bytes in
+    let hands : HandsOver (drop n rest) piece 0 = subst (λ l. IfSome l (λ r. HandsOver r piece 0)) so_far.left_is read.2 in
+    let whole = no_more n rest so_far.front.0 (hands.end refl) in
+    read.0
+    ∙ ap (option_map (λ r. drop 0 r)) so_far.left_is
+    ∙ ap Some (hands.end refl ∙ sym (drop_all limit rest (omega (arith, whole, within))))
+
+-- an open that was answered, and then the reads
+pub rest_after_exchange : {T : Type 0} (result : Result T LinkFault) (book : Option Pages) (to : Authority) (request : List ℕ) (limit : ℕ) (old middle new : Option (List ℕ))
+    → IfSome book (λ pages. IfSome middle (λ rest. rest ≡ response_of pages to request)) → RestAfterReads result limit middle new
+    → RestAfterExchange result book to request limit old new
+rest_after_exchange (Ok answer) None to request limit old middle new opened reads = tt
+rest_after_exchange (Ok answer) (Some pages) to request limit old None new opened reads = rw reads tt
+rest_after_exchange (Ok answer) (Some pages) to request limit old (Some rest) new opened reads = rw reads (ap (λ r. drop limit r) opened)
+rest_after_exchange (Err Failed) None to request limit old middle new opened reads = tt
+rest_after_exchange (Err Failed) (Some pages) to request limit old None new opened reads = rw reads.2 tt
+rest_after_exchange (Err Failed) (Some pages) to request limit old (Some rest) new opened reads =
+    rw reads.2 (inr (reads.0, reads.1, ap (λ r. drop reads.0 r) opened))
+rest_after_exchange (Err Memory) None to request limit old middle new opened reads = inr tt
+rest_after_exchange (Err Memory) (Some pages) to request limit old None new opened reads = inr (rw reads.2 tt)
+rest_after_exchange (Err Memory) (Some pages) to request limit old (Some rest) new opened reads =
+    inr (rw reads.2 (reads.0, reads.1, ap (λ r. drop reads.0 r) opened))
 
 pub front_of : (count : ℕ) (piece behind : List ℕ) → count ≤ length piece → take count (piece ++ behind) ≡ take count piece
 front_of count piece behind within = take-append-le count piece behind within

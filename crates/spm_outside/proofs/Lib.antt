@@ -1,3 +1,5 @@
+pub mod PlaceLemmas
+pub mod BookLemmas
 pub mod CallLemmas
 pub mod FileLemmas
 pub mod PutLemmas

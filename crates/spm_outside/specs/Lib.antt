@@ -4,6 +4,7 @@ pub mod Faults
 pub mod Desk
 pub mod Sink
 pub mod Book
+pub mod BookOrder
 pub mod Link
 pub mod Files
 pub mod Memory

@@ -1,11 +1,12 @@
 ghost use Rattle.std.specs.Prelude.{◌≡◌, IfOk};
 
+use crate::book_index::{first_entry, places_in_order};
 use spm_version::{Bytes, Duplicate, Items, NoMemory, Text};
 use std::alloc::Global;
 use std::marker::Model;
 
 /// Where a registry answers (RFC 3986, section 3.2): a host and a port.
-#[derive(Debug, PartialEq, Eq, Drop)]
+#[derive(Debug, PartialEq, Eq, PartialOrd, Ord, Drop)]
 pub struct Authority {
     pub host: Text,
     pub port: u16,
@@ -56,7 +57,7 @@ impl Entry {
     }
 
     // Whether it replies to this request at this authority.
-    fn is_for(&self, to: &Authority, request: &[u8]) -> bool
+    pub(crate) fn is_for(&self, to: &Authority, request: &[u8]) -> bool
         ensures { result ≡ is_for to.now request.now self.now }
     {
         self.to == *to && self.request.as_slice() == request
@@ -75,24 +76,39 @@ impl Duplicate for Entry {
 pub struct Book {
     entries: Items<Entry>,
     other: Bytes,
+    // The places of the entries, in the order in which they are looked up.
+    places: Vec<usize>,
 }
 
 impl Model for Book {
     ghost use Rattle.spm_outside.specs.Book.{Pages};
+    ghost use Rattle.spm_outside.specs.BookOrder.{IsOrderOf};
 
     ghost Value = { Pages };
 
     ghost view = { λ book. record { entries = book.entries; other = book.other } };
+
+    ghost invariant = { λ book. IsOrderOf book.entries book.places.items };
 }
 
 impl Book {
     ghost use Rattle.spm_outside.specs.Book.{response_of};
 
-    /// The book of these entries, and of this response to every other request. It takes no memory.
-    pub fn new(entries: Items<Entry>, other: Bytes) -> Book
-        ensures { result ≡ record { entries = entries; other = other } }
+    /// The book of these entries, and of this response to every other request. It sorts the entries' places, so that
+    /// a look-up needn't go through all of them.
+    ///
+    /// # Errors
+    ///
+    /// `NoMemory` alone.
+    pub fn new(alloc: Global, entries: Items<Entry>, other: Bytes) -> Result<Book, NoMemory>
+        ensures { IfOk result (λ book. book ≡ record { entries = entries; other = other }) }
     {
-        Book { entries, other }
+        let places = places_in_order(alloc, entries.as_slice())?;
+        Ok(Book {
+            entries,
+            other,
+            places,
+        })
     }
 
     /// Its entries, in their order.
@@ -109,16 +125,15 @@ impl Book {
         self.other.as_slice()
     }
 
-    /// What the authority answers to the request.
+    /// What the authority answers to the request. It compares as many entries as a binary search does, and takes no
+    /// memory.
     pub fn response(&self, to: &Authority, request: &[u8]) -> &[u8]
         ensures { result.now ≡ response_of self.now to.now request.now }
     {
-        for entry in self.entries() {
-            if entry.is_for(to, request) {
-                return entry.response.as_slice();
-            }
+        match first_entry(&self.places, self.entries.as_slice(), to, request) {
+            Some(entry) => entry.response.as_slice(),
+            None => self.other.as_slice(),
         }
-        self.other()
     }
 
     /// A copy of the book.
@@ -127,6 +142,11 @@ impl Book {
     {
         let entries = self.entries.copy(alloc)?;
         let other = self.other.copy(alloc)?;
-        Ok(Book { entries, other })
+        let places = Vec::from_slice(alloc, &self.places)?;
+        Ok(Book {
+            entries,
+            other,
+            places,
+        })
     }
 }

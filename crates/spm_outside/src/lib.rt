@@ -15,10 +15,12 @@
 //! The layer above uses the traits' clauses alone, and states an outcome of the meanings that are told.
 //!
 //! Most proofs follow the definitions, which are by cases on the answer, with no file. The lemmas in `proofs/`
-//! are on the map of a tree's entries, on the bytes of several puts and on marking the last call.
+//! are on the map of a tree's entries, on the order in which a book's entries are looked up, on the bytes of
+//! several puts and of several reads, and on marking the last call.
 #![tactic(auto)]
 
 mod book;
+mod book_index;
 mod book_link;
 mod desk;
 mod door;

@@ -1,6 +1,6 @@
 ghost use Rattle.std.specs.Prelude.{◌≡◌, ℕ, ◌<◌, ◌≤◌, List, length, take, Option, IsSome, IfOk, IfSome};
 ghost use Rattle.spm_outside.specs.Book.{Pages, response_of};
-ghost use Rattle.spm_outside.specs.Exchange.{CallsAfterExchange};
+ghost use Rattle.spm_outside.specs.Exchange.{CallsAfterExchange, RestAfterExchange, RestAfterReads};
 ghost use Rattle.spm_outside.specs.Link.{LinkFaultsAfter, RestAfterOpen, RestAfterRead, calls_after_open, calls_after_read};
 ghost use Rattle.spm_outside.specs.declared.link.Call.{Call};
 ghost use Rattle.spm_outside.specs.declared.link.LinkFault.TheVariants.{Memory};
@@ -137,6 +137,8 @@ pub fn exchange<L: Link>(
 ) -> Result<Bytes, LinkFault>
     ensures response { IfOk result (λ bytes. IfSome (L.book link.old) (λ pages. bytes ≡ take limit (response_of pages to.now request.now))) }
     ensures within { IfOk result (λ bytes. length bytes ≤ limit) }
+    // Nothing is read past the limit.
+    ensures rest { RestAfterExchange result (L.book link.old) to.now request.now limit (L.rest link.old) (L.rest link.new) }
     ensures book { L.book link.new ≡ L.book link.old }
     ensures calls { CallsAfterExchange result to.now request.now (L.calls link.old) (L.calls link.new) }
     ensures faults { LinkFaultsAfter result (L.faults link.old) (L.faults link.new) }
@@ -149,6 +151,7 @@ pub fn exchange<L: Link>(
 fn read_all<L: Link>(alloc: Global, link: &mut L, limit: u64) -> Result<Bytes, LinkFault>
     ensures response { IfOk result (λ bytes. IfSome (L.rest link.old) (λ rest. bytes ≡ take limit rest)) }
     ensures within { IfOk result (λ bytes. length bytes ≤ limit) }
+    ensures rest { RestAfterReads result limit (L.rest link.old) (L.rest link.new) }
     ensures book { L.book link.new ≡ L.book link.old }
     ensures calls { L.calls link.new ≡ calls_after_read result (L.calls link.old) }
     ensures faults { LinkFaultsAfter result (L.faults link.old) (L.faults link.new) }

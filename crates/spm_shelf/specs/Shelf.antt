@@ -1,30 +1,31 @@
 -- A shelf file: what a registry has. `{"packages":{IDENTITY:{VERSION:RELEASE}},"urls":{URL:[IDENTITY]}}`, where a
 -- RELEASE has a problem, or a manifest and an archive, and may say a checksum.
-use Rattle.std.specs.Prelude.{◌≡◌, ℕ, List, [], Bool, codes, nat_eq, Option, Some, None, Ok, if◌then◌else◌}
-use Rattle.std.specs.Cmp.Lexicographic.{pointwise}
+use Rattle.std.specs.Prelude.{◌≡◌, ℕ, List, [], ◌∷◌, All, Bool, true, codes, nat_eq, Option, Some, None, Result, Ok, Err, if◌then◌else◌}
+use Rattle.std.specs.Cmp.Lexicographic.{pointwise, slice_cmp}
 use Rattle.std.specs.List.{list_any}
+use Rattle.std.specs.List.Sorted.{IsPermutation}
+use Rattle.std.specs.Ordering.{is_lt, nat_cmp}
 use Rattle.std.specs.Result.{result_ok}
 use Rattle.serde_json.specs.Data.{Data}
 use Rattle.spm_digest.specs.Digest.{decode_of, sum_of}
 use Rattle.spm_version.specs.declared.kind.Kind.TheVariants.{BadHex, Doubled}
-use Rattle.spm_json.specs.Reading.{Reading, fault_here, or_fault, ◌>>=◌}
-use Rattle.spm_json.specs.Shape.{document_of, object_of, text_of}
+use Rattle.spm_json.specs.Reading.{Fails, Reading, fault_here, or_fault, ◌>>=◌}
+use Rattle.spm_json.specs.Shape.{object_of, text_of, whole_of}
 use Rattle.spm_json.specs.Field.{field_of, needed_field_of, optional_field_of}
 use Rattle.spm_json.specs.Sequence.{items_of, members_of}
 use Rattle.spm_json.specs.Value.{identity_in, identity_reading, release_in}
-use Rattle.spm_shelf.specs.declared.shelf.Packages.{Packages}
-use Rattle.spm_shelf.specs.declared.shelf.ShelfFile.{ShelfFile}
-use Rattle.spm_shelf.specs.declared.shelf.ShelfPackage.{ShelfPackage}
-use Rattle.spm_shelf.specs.declared.shelf.ShelfRelease.{ShelfRelease}
-use Rattle.spm_shelf.specs.declared.shelf.ShelfUrl.{ShelfUrl}
-use Rattle.spm_shelf.specs.declared.shelf.Urls.{Urls}
-use Rattle.spm_shelf.specs.declared.hexadecimal.Archive.{Archive}
+use Rattle.spm_json.specs.declared.fault.ReadFault.{ReadFault}
+use Rattle.spm_shelf.specs.declared.file.Packages.{Packages}
+use Rattle.spm_shelf.specs.declared.file.ShelfFile.{ShelfFile}
+use Rattle.spm_shelf.specs.declared.file.ShelfPackage.{ShelfPackage}
+use Rattle.spm_shelf.specs.declared.file.ShelfRelease.{ShelfRelease}
+use Rattle.spm_shelf.specs.declared.file.ShelfUrl.{ShelfUrl}
+use Rattle.spm_shelf.specs.declared.file.Urls.{Urls}
 use Rattle.spm_shelf.specs.declared.hexadecimal.Checksum.{Checksum}
 
--- bytes in hexadecimal
-abbrev pub archive_reading : Data → Reading Archive
-archive_reading d = text_of d >>= λ text. or_fault BadHex (result_ok (decode_of text)) >>= λ bytes.
-    Ok (record { bytes = bytes })
+-- an archive: its bytes in hexadecimal
+abbrev pub archive_reading : Data → Reading (List ℕ)
+archive_reading d = text_of d >>= λ text. or_fault BadHex (result_ok (decode_of text))
 
 -- 64 hexadecimal digits
 abbrev pub checksum_reading : Data → Reading Checksum
@@ -75,5 +76,32 @@ file_reading d = object_of d >>= λ o.
     optional_field_of urls_reading (codes "urls") o >>= λ urls.
     Ok (record { packages = packages.packages; urls = urls_in urls })
 
+-- what the bytes of a shelf file say, in its own order, or its first fault
 abbrev pub shelf_of : List ℕ → Reading ShelfFile
-shelf_of bytes = document_of bytes >>= file_reading
+shelf_of bytes = whole_of file_reading bytes
+
+-- ---- the shelf that a file is
+
+-- this package stands before each of these
+abbrev pub is_before : ShelfPackage → ShelfPackage → Bool
+is_before first second = is_lt (slice_cmp nat_cmp first.identity second.identity)
+
+-- strictly ascending by identity
+abbrev pub AreAscending : List ShelfPackage → Type 0
+AreAscending [] = Unit {0}
+AreAscending (entry ∷ entries) = All (λ later. is_before entry later ≡ true) entries × AreAscending entries
+
+-- the packages of the file in the order of their identities; the URLs as they stand in it, which is in byte order
+pub record IsShelfOf (file shelf : ShelfFile) : Type 0 where
+  pub same : IsPermutation file.packages shelf.packages
+  pub ascending : AreAscending shelf.packages
+  pub urls : shelf.urls ≡ file.urls
+
+abbrev pub ReadsShelf : Result ShelfFile ReadFault → Reading ShelfFile → Type 0
+ReadsShelf (Ok shelf) reading = (file : ShelfFile) × (reading ≡ Ok file) × IsShelfOf file shelf
+ReadsShelf (Err fault) reading = Fails fault reading
+
+-- the first package with this identity
+abbrev pub package_of : List ℕ → List ShelfPackage → Option ShelfPackage
+package_of identity [] = None
+package_of identity (entry ∷ entries) = if is_package identity entry then Some entry else package_of identity entries

@@ -1,15 +1,54 @@
+ghost use Rattle.std.specs.Prelude.{◌≡◌};
+ghost use Rattle.spm_digest.specs.Digest.{sha256};
 ghost use Rattle.spm_shelf.specs.Shelf.{archive_reading, checksum_reading};
 
 use serde_json::Value;
-use spm_digest::read_hex;
+use spm_digest::{read_hex, sum};
 use spm_json::{FromJson, ReadFault, text};
 use spm_version::{Bytes, Kind};
 use std::alloc::Global;
+use std::marker::Model;
 
-/// An archive's bytes, read from hexadecimal digits.
+/// An archive: its bytes, and their SHA-256, which is worked out once. Contracts see the bytes.
 #[derive(Debug, Drop)]
 pub struct Archive {
-    pub bytes: Bytes,
+    bytes: Bytes,
+    sum: [u8; 32],
+}
+
+impl Model for Archive {
+    ghost use Rattle.std.specs.Prelude.{◌≡◌, ℕ, List};
+    ghost use Rattle.spm_digest.specs.Digest.{sha256};
+
+    ghost Value = { List ℕ };
+
+    ghost view = { λ archive. archive.bytes };
+
+    ghost invariant = { λ archive. archive.sum ≡ sha256 archive.bytes };
+}
+
+impl Archive {
+    /// The archive of these bytes. It takes no memory.
+    pub fn new(bytes: Bytes) -> Archive
+        ensures { result ≡ bytes }
+    {
+        let sum = sum(bytes.as_slice());
+        Archive { bytes, sum }
+    }
+
+    /// Its bytes, lent.
+    pub fn bytes(&self) -> &[u8]
+        ensures { result.now ≡ self.now }
+    {
+        self.bytes.as_slice()
+    }
+
+    /// The SHA-256 of its bytes.
+    pub fn sum(&self) -> &[u8; 32]
+        ensures { result.now ≡ sha256 self.now }
+    {
+        &self.sum
+    }
 }
 
 impl FromJson for Archive {
@@ -18,9 +57,7 @@ impl FromJson for Archive {
     fn from_json(alloc: Global, value: &Value) -> Result<Archive, ReadFault> {
         let digits = text(alloc, value)?;
         match hex::decode(alloc, digits) {
-            Ok(bytes) => Ok(Archive {
-                bytes: Bytes::from_vec(bytes),
-            }),
+            Ok(bytes) => Ok(Archive::new(Bytes::from_vec(bytes))),
             Err(hex::FromHexError::OutOfMemory) => Err(ReadFault::Memory),
             Err(_) => Err(ReadFault::here(alloc, Kind::BadHex)),
         }

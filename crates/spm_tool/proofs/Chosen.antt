@@ -16,7 +16,7 @@ use Rattle.std.proofs.lemmas.Slice.Eq.{bytes_eq-Decides}
 use Rattle.spm_manifest.specs.declared.need.Need.{Need}
 use Rattle.spm_manifest.specs.declared.need.Target.{Target}
 use Rattle.spm_manifest.specs.declared.need.Target.TheVariants.{Registry, Url, Local}
-use Rattle.spm_shelf.specs.declared.shelf.ShelfPackage.{ShelfPackage}
+use Rattle.spm_shelf.specs.declared.file.ShelfPackage.{ShelfPackage}
 use Rattle.spm_tool.specs.Chosen.{AreAscending, ArePinsOf, IsAmong, IsPinOf}
 use Rattle.spm_tool.specs.Selection.{are_distinct, chosen_of, kept_pin, leaf_release, pin_in, pins_after, pins_of, releases_of, same_target}
 use Rattle.spm_version.specs.Release.{Parts}

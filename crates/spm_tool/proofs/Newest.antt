@@ -5,7 +5,7 @@ use Rattle.std.specs.Cmp.{IsTotalOrder, tied_itself}
 use Rattle.std.specs.Ordering.{is_gt, ordering_reverse}
 use Rattle.std.specs.declared.cmp.Ordering.{Ordering}
 use Rattle.std.specs.declared.cmp.Ordering.TheVariants.{Less, Equal, Greater}
-use Rattle.spm_shelf.specs.declared.shelf.ShelfRelease.{ShelfRelease}
+use Rattle.spm_shelf.specs.declared.file.ShelfRelease.{ShelfRelease}
 use Rattle.spm_tool.specs.Newest.{IsAboveAll, IsAmongEntries, IsNewest}
 use Rattle.spm_tool.specs.Selection.{newest_after, newest_of}
 use Rattle.spm_version.specs.ReleaseLaws.{release_cmp, release_total}

@@ -4,7 +4,7 @@ use Rattle.std.specs.Cmp.Lexicographic.{slice_cmp}
 use Rattle.std.specs.Ordering.{nat_cmp}
 use Rattle.std.specs.declared.cmp.Ordering.TheVariants.{Less}
 use Rattle.spm_manifest.specs.declared.need.Need.{Need}
-use Rattle.spm_shelf.specs.declared.shelf.ShelfPackage.{ShelfPackage}
+use Rattle.spm_shelf.specs.declared.file.ShelfPackage.{ShelfPackage}
 use Rattle.spm_tool.specs.Selection.{pin_in}
 use Rattle.spm_version.specs.Release.{Parts}
 

@@ -10,8 +10,8 @@ use Rattle.spm_outside.specs.Names.{FileMap}
 use Rattle.spm_resolved.specs.Reading.{resolved_of}
 use Rattle.spm_resolved.specs.Resolved.{resolved_text}
 use Rattle.spm_resolved.specs.declared.reading.Resolved.{Resolved as LockFile}
-use Rattle.spm_shelf.specs.declared.shelf.ShelfFile.{ShelfFile}
-use Rattle.spm_shelf.specs.declared.shelf.ShelfPackage.{ShelfPackage}
+use Rattle.spm_shelf.specs.declared.file.ShelfFile.{ShelfFile}
+use Rattle.spm_shelf.specs.declared.file.ShelfPackage.{ShelfPackage}
 use Rattle.spm_tool.specs.Selection.{fits_tools, is_built, last_unmet, pins_of, plain_shelf_of}
 use Rattle.spm_tool.specs.Words.{Order, lock_name, manifest_name}
 use Rattle.spm_version.specs.Release.{Parts}

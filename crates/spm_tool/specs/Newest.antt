@@ -1,7 +1,7 @@
 -- What it is to be the newest release that a requirement contains, in the words of the order alone.
 use Rattle.std.specs.Prelude.{◌≡◌, ◌⊎◌, List, [], ◌∷◌, true, false, Option, Some, None}
 use Rattle.std.specs.Ordering.{is_gt}
-use Rattle.spm_shelf.specs.declared.shelf.ShelfRelease.{ShelfRelease}
+use Rattle.spm_shelf.specs.declared.file.ShelfRelease.{ShelfRelease}
 use Rattle.spm_version.specs.ReleaseLaws.{release_cmp}
 use Rattle.spm_version.specs.Requirement.{contains}
 use Rattle.spm_version.specs.declared.requirement.Requirement.{Requirement}

@@ -1,6 +1,6 @@
 -- What the steps of a root's run answer: steps that the code takes one by one.
 use Rattle.std.specs.Prelude.{◌≡◌, ℕ, List, Option, None, Result, Ok, Err}
-use Rattle.spm_shelf.specs.declared.shelf.ShelfFile.{ShelfFile}
+use Rattle.spm_shelf.specs.declared.file.ShelfFile.{ShelfFile}
 use Rattle.spm_version.specs.declared.requirement.Requirement.{Requirement}
 use Rattle.spm_tool.specs.Course.{faulty_root_file, faulty_shelf_file}
 use Rattle.spm_tool.specs.Ending.{IsShelfEnding, shelf_in}

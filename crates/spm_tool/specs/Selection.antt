@@ -17,9 +17,9 @@ use Rattle.spm_manifest.specs.declared.need.Need.{Need}
 use Rattle.spm_manifest.specs.declared.need.Target.{Target}
 use Rattle.spm_manifest.specs.declared.need.Target.TheVariants.{Registry, Url, Local}
 use Rattle.spm_shelf.specs.Shelf.{is_package, shelf_of}
-use Rattle.spm_shelf.specs.declared.shelf.ShelfFile.{ShelfFile}
-use Rattle.spm_shelf.specs.declared.shelf.ShelfPackage.{ShelfPackage}
-use Rattle.spm_shelf.specs.declared.shelf.ShelfRelease.{ShelfRelease}
+use Rattle.spm_shelf.specs.declared.file.ShelfFile.{ShelfFile}
+use Rattle.spm_shelf.specs.declared.file.ShelfPackage.{ShelfPackage}
+use Rattle.spm_shelf.specs.declared.file.ShelfRelease.{ShelfRelease}
 use Rattle.spm_version.specs.Release.{Parts, parts_text}
 use Rattle.spm_version.specs.ReleaseLaws.{release_cmp, release_eq}
 use Rattle.spm_version.specs.Requirement.{contains}

@@ -1,7 +1,7 @@
 ghost use Rattle.std.specs.Prelude.{◌≡◌, ℕ, List, Some, true};
 ghost use Rattle.spm_manifest.specs.declared.need.Need.{Need};
-ghost use Rattle.spm_shelf.specs.declared.shelf.ShelfPackage.{ShelfPackage};
-ghost use Rattle.spm_shelf.specs.declared.shelf.ShelfRelease.{ShelfRelease};
+ghost use Rattle.spm_shelf.specs.declared.file.ShelfPackage.{ShelfPackage};
+ghost use Rattle.spm_shelf.specs.declared.file.ShelfRelease.{ShelfRelease};
 ghost use Rattle.spm_tool.specs.Chosen.{ArePinsOf};
 ghost use Rattle.spm_tool.specs.Newest.{IsNewest};
 ghost use Rattle.spm_tool.specs.Selection.{are_distinct, newest_of, pins_of};

@@ -1,16 +1,17 @@
-ghost use Rattle.std.specs.Prelude.{◌≡◌};
-ghost use Rattle.std.specs.List.{list_any};
+ghost use Rattle.std.specs.Prelude.{◌≡◌, ◌||◌, ℕ, List, IfOk};
 ghost use Rattle.serde_json.specs.View.{view};
+ghost use Rattle.spm_json.specs.Names.{has_name, same_name};
 ghost use Rattle.spm_json.specs.Object.{data_of};
 ghost use Rattle.spm_json.specs.Reading.{Gives};
 ghost use Rattle.spm_json.specs.Shape.{text_of};
-ghost use Rattle.spm_shelf.specs.Shelf.{archive_reading, file_reading, is_package, not_doubled, package_member, packages_reading, release_member, shelf_of, unless_problem, url_member, urls_reading};
+ghost use Rattle.spm_shelf.specs.Shelf.{file_reading, packages_reading, release_member, shelf_of, unless_problem, url_member, urls_reading};
+ghost use Rattle.spm_shelf.specs.NewPackage.{package_unless};
 
 use crate::hexadecimal::{Archive, Checksum};
 use serde_json::Value;
 use spm_ident::Identity;
 use spm_json::{
-    FromJson, FromMember, Object, ReadFault, identity, items, members, read_document, release,
+    FromJson, FromMember, Names, Object, ReadFault, identity, items, members, read_whole, release,
 };
 use spm_version::{Items, Kind, Release, Text};
 use std::alloc::Global;
@@ -77,36 +78,6 @@ pub struct ShelfPackage {
     pub releases: Items<ShelfRelease>,
 }
 
-/// Whether one of the packages has this identity.
-fn has_package(packages: &[ShelfPackage], identity: &Identity) -> bool
-    ensures { result ≡ list_any (is_package identity.now) packages.now }
-{
-    for package in packages {
-        if package.identity == *identity {
-            return true;
-        }
-    }
-    false
-}
-
-impl FromMember for ShelfPackage {
-    ghost reading = { package_member };
-
-    fn from_member(
-        alloc: Global,
-        earlier: &[ShelfPackage],
-        key: &str,
-        value: &Value,
-    ) -> Result<ShelfPackage, ReadFault> {
-        let identity = identity(alloc, key)?;
-        if has_package(earlier, &identity) {
-            return Err(ReadFault::here(alloc, Kind::Doubled));
-        }
-        let releases = members(alloc, value)?;
-        Ok(ShelfPackage { identity, releases })
-    }
-}
-
 /// The object `packages`.
 #[derive(Drop)]
 pub struct Packages {
@@ -117,9 +88,40 @@ impl FromJson for Packages {
     ghost reading = { packages_reading };
 
     fn from_json(alloc: Global, value: &Value) -> Result<Packages, ReadFault> {
-        let packages = members(alloc, value)?;
-        Ok(Packages { packages })
+        let Some(object) = value.as_object() else {
+            return Err(ReadFault::here(alloc, Kind::WrongKind));
+        };
+        let mut met = Names::new(alloc);
+        let mut packages = Vec::new(alloc);
+        for (key, releases) in object {
+            match new_package(alloc, &mut met, key.as_str(), releases) {
+                Ok(entry) => packages.push(entry)?,
+                Err(fault) => return Err(fault.under_foreign_key(alloc)),
+            }
+        }
+        Ok(Packages {
+            packages: Items::from_vec(packages),
+        })
     }
+}
+
+// A package whose identity wasn't met before, and is met now.
+fn new_package(
+    alloc: Global,
+    met: &mut Names,
+    key: &str,
+    value: &Value,
+) -> Result<ShelfPackage, ReadFault>
+    ensures entry { Gives result (package_unless (has_name met.old) key.now (view value.now)) }
+    ensures met { IfOk result (λ entry. (other : List ℕ)
+        → has_name met.new other ≡ (same_name entry.identity other || has_name met.old other)) }
+{
+    let identity = identity(alloc, key)?;
+    if !met.insert(alloc, identity.text())? {
+        return Err(ReadFault::here(alloc, Kind::Doubled));
+    }
+    let releases = members(alloc, value)?;
+    Ok(ShelfPackage { identity, releases })
 }
 
 /// A source-control URL with the identities that the registry knows for it.
@@ -159,7 +161,7 @@ impl FromJson for Urls {
     }
 }
 
-/// A shelf: packages in the byte order of their keys in the file, and URLs in byte order.
+/// What a shelf file says: packages in the byte order of their keys in the file, and URLs in byte order.
 #[derive(Debug, Drop)]
 pub struct ShelfFile {
     pub packages: Items<ShelfPackage>,
@@ -184,11 +186,14 @@ impl FromJson for ShelfFile {
 }
 
 impl ShelfFile {
-    /// Reads a shelf file, or answers its first fault, whose place is a path from the document's root.
+    /// Reads a shelf file, with its packages and URLs in the byte order of their keys.
+    ///
+    /// # Errors
+    ///
+    /// The first fault in the reading order: its kind, and its place as a path from the document's root, which is `/`; and `Memory`.
     pub fn read(alloc: Global, bytes: &[u8]) -> Result<ShelfFile, ReadFault>
         ensures { Gives result (shelf_of bytes.now) }
     {
-        let document = read_document(alloc, bytes)?;
-        ShelfFile::from_json(alloc, &document)
+        read_whole(alloc, bytes)
     }
 }

@@ -1,0 +1,12 @@
+pub mod Classes
+pub mod WrittenRequests
+pub mod WrittenResponses
+pub mod Paths
+pub mod AnswerLaws
+pub mod ReplyLaws
+pub mod SameRequest
+pub mod ContentLemmas
+pub mod TargetLemmas
+pub mod RoundTripLaw
+pub mod PagesLemmas
+pub mod ServingLemmas

@@ -1,0 +1,16 @@
+use Rattle.std.proofs.Common.{◌≡◌, ◌≤◌, ◌-◌, length, IfSome, vec_len}
+use Rattle.spm_server.proofs.ServingLemmas.{IsUnfinished}
+use Rattle.spm_server.proofs.serving.take_request.Given as goal
+
+abbrev pub invariant-loop-alloc : goal.invariant-loop-alloc
+invariant-loop-alloc g l = record {
+  within : length l.request.items ≤ 65536;
+  piece : length l.piece ≡ 4096;
+  unfinished : IsUnfinished l.request.items;
+  taken : IfSome (g.P.Peer.taken l.peer) (λ taken. taken ≡ l.request.items);
+  written : g.P.Peer.written l.peer ≡ g.P.Peer.written l.initial.peer;
+  faults : g.P.Peer.faults l.peer ≡ g.P.Peer.faults l.initial.peer;
+}
+
+abbrev pub decreases-loop-alloc : goal.decreases-loop-alloc
+decreases-loop-alloc g l = 65536 - vec_len l.request

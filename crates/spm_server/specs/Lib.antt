@@ -1,0 +1,9 @@
+pub mod Target
+pub mod Cut
+pub mod Keys
+pub mod Problem
+pub mod Content
+pub mod Answer
+pub mod RoundTrip
+pub mod Pages
+pub mod Serving

@@ -1,0 +1,21 @@
+//! Laws of the definitions: each function here has one as its contract, and nothing calls them.
+ghost use Rattle.std.specs.Prelude.{◌≡◌, ℕ, List};
+ghost use Rattle.spm_api.specs.declared.base.Base.{Base};
+ghost use Rattle.spm_key.specs.declared.key.Key.{Key};
+ghost use Rattle.spm_shelf.specs.declared.file.ShelfFile.{ShelfFile};
+ghost use Rattle.spm_server.specs.Answer.{IsAnswer};
+ghost use Rattle.spm_server.specs.RoundTrip.{ComesBack};
+ghost use Rattle.spm_server.specs.declared.answering.AnswerParts.{AnswerParts};
+
+/// What the server answers to the request for a key is read as status 200 and the shelf's contents where the shelf has the
+/// resource, and else as 404: for a base without prefix whose host is of printable ASCII characters, a request that fits, a body
+/// within its limit and a version that doesn't end in `.zip`.
+pub fn an_answer_comes_back()
+    ensures { (shelf : ShelfFile) (base : Base) (asked : Key) → ComesBack shelf base asked }
+{}
+
+/// A request has one answer.
+pub fn a_request_has_one_answer()
+    ensures { (shelf : ShelfFile) (request : List ℕ) (first second : AnswerParts)
+        → IsAnswer shelf request first → IsAnswer shelf request second → first ≡ second }
+{}

@@ -1,0 +1,4 @@
+pub mod Distinct
+pub mod Ascending
+pub mod TextLemmas
+pub mod MetLemmas
