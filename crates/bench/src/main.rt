@@ -1,40 +1,30 @@
-//! Runs one piece of the libraries at a given size, for measuring from outside: `bench PIECE SIZE TIMES`.
+//! Runs one piece of the libraries on a file, for measuring from outside: `bench PIECE FILE TIMES`.
 //!
-//! It makes an input of that size, runs the piece so many times, and prints what it came to, which is the same at
-//! every run. It looks at no clock: `bench/run` at the top of the repository times it at growing sizes and prints a table.
-//! It promises nothing; the contracts are those of the libraries that it calls.
+//! It reads the file, makes of it what the piece needs, runs the piece so many times, and prints what it came to, which is the same at
+//! every run. It looks at no clock: `bench/run` at the top of the repository makes files of growing sizes, times the runs and prints a
+//! table. It promises nothing; the contracts are those of the libraries that it calls.
 #![tactic(auto)]
 
-mod derivations;
-mod inputs;
 mod pieces;
-mod registry;
 
-use crate::pieces::{BenchError, Piece, run_piece};
+use crate::pieces::{BenchError, run_piece};
 use std::env::Env;
 use std::process::ExitCode;
-use std::{env, io};
+use std::rt::Files;
+use std::{env, fs};
 
-/// The piece, its size and how often it runs.
-fn words<R: Env + AllocGlobal>(rt: &R) -> Result<(Piece, u32, u32), BenchError> {
+// Runs what the words say, and prints what it came to.
+fn run<R: Env + Files + Print + AllocGlobal>(rt: &R) -> Result<(), BenchError> {
     let args: Vec<String> = env::args(rt)?.skip(1).collect(rt.alloc())?;
-    let [piece, size, times] = args.as_slice() else {
+    let [piece, file, times] = args.as_slice() else {
         return Err(BenchError::Words);
     };
-    let size = size.as_str().parse::<u32>().ok();
-    let times = times.as_str().parse::<u32>().ok();
-    match (Piece::named(piece.as_str()), size, times) {
-        (Some(piece), Some(size), Some(times)) => Ok((piece, size, times)),
-        _ => Err(BenchError::Words),
-    }
-}
-
-/// Runs what the words say, and prints what it came to.
-fn run<R: Env + Print + AllocGlobal>(rt: &R) -> Result<(), BenchError> {
-    let (piece, size, times) = words(rt)?;
-    let count = run_piece(rt.alloc(), piece, size, times)?;
-    let name = piece.name();
-    println!(rt; "{name} {size}: {count}")?;
+    let Ok(times) = times.as_str().parse::<u32>() else {
+        return Err(BenchError::Words);
+    };
+    let text = fs::read_to_string(rt, file.as_str())?;
+    let count = run_piece(rt.alloc(), piece.as_str(), text, times)?;
+    println!(rt; "{piece}: {count}")?;
     Ok(())
 }
 

@@ -1,110 +1,28 @@
-use crate::derivations::derivation_of;
-use crate::inputs::{dump_of, lock_of, proof_of};
-use crate::registry::{
-    answer_all, book_of, look_up, read_json, requests_of, shelf_file_of, shelf_of,
-};
-use pub_proof::{Derivation, ProofFault, check};
-use pub_term::Incompat;
+use pub_proof::{Derivation, Line, ProofFault, check};
+use pub_set::Choices;
+use pub_term::{Incompat, Term};
+use serde_json::Value;
+use spm_key::Key;
 use spm_manifest::Manifest;
-use spm_outside::Book;
+use spm_outside::{Authority, Book, Entry};
 use spm_resolved::Resolved;
+use spm_server::answer;
 use spm_shelf::Shelf;
 use spm_trait::{TraitName, closure};
-use spm_version::{Bytes, Items, NoMemory};
-use std::alloc::{AllocError, AllocFailed, Global};
-use std::error::Error;
-use std::{fmt, io};
-
-/// What is measured.
-#[derive(Clone, Copy, Debug, PartialEq, Eq)]
-pub enum Piece {
-    /// A dump is made, and not read.
-    Dump,
-    /// A dump is read, and the closure of its first trait taken.
-    Manifest,
-    /// A lock file is made, and not read.
-    Pins,
-    /// A lock file is read.
-    Lock,
-    /// A derivation is made with its facts, and not checked.
-    Derivation,
-    /// A derivation is checked by its own facts.
-    Check,
-    /// A file of a derivation is read.
-    Proof,
-    /// Each request of a book is looked up.
-    Lookup,
-    /// A shelf's file is read.
-    Shelf,
-    /// A shelf's file is read as JSON alone.
-    Json,
-    /// A request of one manifest of each package of a shelf is answered.
-    Answer,
-    /// A request of the list of each package of a shelf is answered.
-    List,
-}
-
-impl Piece {
-    /// The piece of this name.
-    pub fn named(name: &str) -> Option<Piece> {
-        match name {
-            "dump" => Some(Piece::Dump),
-            "manifest" => Some(Piece::Manifest),
-            "pins" => Some(Piece::Pins),
-            "lock" => Some(Piece::Lock),
-            "derivation" => Some(Piece::Derivation),
-            "check" => Some(Piece::Check),
-            "proof" => Some(Piece::Proof),
-            "lookup" => Some(Piece::Lookup),
-            "shelf" => Some(Piece::Shelf),
-            "json" => Some(Piece::Json),
-            "answer" => Some(Piece::Answer),
-            "list" => Some(Piece::List),
-            _ => None,
-        }
-    }
-
-    /// Its name.
-    pub fn name(self) -> &'static str {
-        match self {
-            Piece::Dump => "dump",
-            Piece::Manifest => "manifest",
-            Piece::Pins => "pins",
-            Piece::Lock => "lock",
-            Piece::Derivation => "derivation",
-            Piece::Check => "check",
-            Piece::Proof => "proof",
-            Piece::Lookup => "lookup",
-            Piece::Shelf => "shelf",
-            Piece::Json => "json",
-            Piece::Answer => "answer",
-            Piece::List => "list",
-        }
-    }
-}
+use spm_version::{Bytes, Items, NoMemory, Text};
+use std::alloc::{AllocError, Global};
+use std::io;
 
 /// Why nothing was measured.
 #[derive(Debug, Drop)]
 pub enum BenchError {
-    /// The words are no piece with a size and a count.
+    /// The words are no piece with a file and a count.
     Words,
-    /// An input was refused.
+    /// The file was refused, or there was no memory.
     Refused,
-    /// Input, output or memory failed.
+    /// Input or output failed.
     Io(io::Error),
 }
-
-impl fmt::Display for BenchError {
-    fn fmt<W: fmt::Write>(&self, f: &mut fmt::Formatter<W>) -> fmt::Result {
-        f.write_str(match self {
-            BenchError::Words => "bench PIECE SIZE TIMES",
-            BenchError::Refused => "an input was refused",
-            BenchError::Io(_) => "input, output or memory failed",
-        })
-    }
-}
-
-impl Error for BenchError {}
 
 impl From<io::Error> for BenchError {
     fn from(e: io::Error) -> BenchError {
@@ -118,44 +36,95 @@ impl From<AllocError> for BenchError {
     }
 }
 
-impl From<NoMemory> for BenchError {
-    fn from(_e: NoMemory) -> BenchError {
-        BenchError::Refused
-    }
+// What is made once of the file.
+#[derive(Drop)]
+enum Input {
+    // The file itself.
+    Text(String),
+    // A derivation, with its facts.
+    Lines(Derivation, Items<Incompat>),
+    // The replies of a registry.
+    Replies(Book),
+    // A shelf, with requests to answer from it.
+    Stock(Shelf, Items<Bytes>),
 }
 
-/// Reads the dump, and counts its needs and the closure of its first trait.
+// Reads a dump, and counts its needs and the closure of its first trait.
 fn read_dump(alloc: Global, text: &str) -> Result<usize, BenchError> {
-    let Ok(manifest) = Manifest::read(alloc, text.as_bytes()) else {
-        return Err(BenchError::Refused);
-    };
-    let Ok(first) = TraitName::parse(alloc, "t0") else {
-        return Err(BenchError::Refused);
-    };
-    let needs = manifest.needs().len();
-    match closure(alloc, manifest.traits(), &[first]) {
-        Ok(names) => Ok(needs.saturating_add(names.len())),
-        Err(_) => Ok(needs),
-    }
+    let manifest = Manifest::read(alloc, text.as_bytes()).map_err(|_| BenchError::Refused)?;
+    let first = TraitName::parse(alloc, "t0").map_err(|_| BenchError::Refused)?;
+    let names = closure(alloc, manifest.traits(), &[first]).map_or(0, |names| names.len());
+    Ok(manifest.needs().len().saturating_add(names))
 }
 
-/// Reads the lock file, and counts its pins.
+// Reads a lock file, and counts its pins.
 fn read_lock(alloc: Global, text: &str) -> Result<usize, BenchError> {
-    match Resolved::read(alloc, text.as_bytes()) {
-        Ok(resolved) => Ok(resolved.pins.as_slice().len()),
-        Err(_) => Err(BenchError::Refused),
-    }
+    let lock = Resolved::read(alloc, text.as_bytes()).map_err(|_| BenchError::Refused)?;
+    Ok(lock.pins.as_slice().len())
 }
 
-/// Reads the file of a derivation, and counts its lines.
-fn read_proof(alloc: Global, text: &str) -> Result<usize, BenchError> {
-    match Derivation::read(alloc, text.as_bytes()) {
-        Ok(derivation) => Ok(derivation.lines.as_slice().len()),
-        Err(_) => Err(BenchError::Refused),
-    }
+// The derivation of a file.
+fn derivation_of(alloc: Global, text: &str) -> Result<Derivation, BenchError> {
+    Derivation::read(alloc, text.as_bytes()).map_err(|_| BenchError::Refused)
 }
 
-/// Checks the derivation, and counts its lines up to the first bad one.
+// How many choices a node of a wide derivation has.
+const WIDE: u32 = 4096;
+
+// The sets of three choices, by their bits, with each choice made a third of WIDE: at most two runs each.
+fn wide_sets(alloc: Global) -> Result<Vec<Choices>, NoMemory> {
+    let mut sets = Vec::new(alloc);
+    for bits in 0..8u32 {
+        let mut numbers = Vec::new(alloc);
+        for choice in 0..WIDE {
+            if bits >> (choice / 1365).min(2) & 1 == 1 {
+                numbers.push(choice)?;
+            }
+        }
+        if numbers.iter().all(|choice| *choice < WIDE) {
+            sets.push(Choices::of(alloc, WIDE, &numbers)?)?;
+        }
+    }
+    Ok(sets)
+}
+
+// The terms with the wide set in place of each.
+fn wide_terms(alloc: Global, sets: &[Choices], terms: &[Term]) -> Result<Items<Term>, BenchError> {
+    let mut wide = Items::new(alloc);
+    for term in terms {
+        let bits = (0..3usize).filter(|choice| term.choices.has(*choice as u32));
+        let place = bits.fold(0usize, |sum, choice| sum | 1 << choice);
+        let set = sets.get(place).ok_or(BenchError::Refused)?;
+        wide.push(Term {
+            node: term.node,
+            choices: set.copy(alloc)?,
+        })?;
+    }
+    Ok(wide)
+}
+
+// The derivation over sets of WIDE choices in place of three.
+fn widened(alloc: Global, derivation: &Derivation) -> Result<Derivation, BenchError> {
+    let sets = wide_sets(alloc)?;
+    let mut lines = Items::new(alloc);
+    for line in derivation.lines.as_slice() {
+        lines.push(match line {
+            Line::Fact(incompat, cause) => {
+                let terms = wide_terms(alloc, &sets, incompat.terms.as_slice())?;
+                Line::Fact(Incompat { terms }, cause.copy(alloc)?)
+            }
+            line => line.copy(alloc)?,
+        })?;
+    }
+    let copy = derivation.copy(alloc)?;
+    Ok(Derivation {
+        nodes: copy.nodes,
+        sizes: Items::from_vec(vec![in alloc; WIDE; copy.sizes.as_slice().len()]?),
+        lines,
+    })
+}
+
+// Checks the derivation, and counts its lines up to the first bad one.
 fn check_lines(
     alloc: Global,
     derivation: &Derivation,
@@ -168,79 +137,126 @@ fn check_lines(
     }
 }
 
-/// What is made once for a piece.
-#[derive(Drop)]
-enum Input {
-    /// A file.
-    Text(String),
-    /// A derivation, with its facts.
-    Lines(Derivation, Items<Incompat>),
-    /// The replies of a registry.
-    Replies(Book),
-    /// A shelf, with requests to answer from it.
-    Stock(Shelf, Items<Bytes>),
+// A book with an entry for each line of the file, and no answer to every other request.
+fn book_of(alloc: Global, text: &str) -> Result<Book, NoMemory> {
+    let mut entries = Items::new(alloc);
+    for line in text.lines() {
+        let host = Text::from_str(alloc, "registry.example")?;
+        entries.push(Entry {
+            to: Authority { host, port: 443 },
+            request: Bytes::from_slice(alloc, line.as_bytes())?,
+            response: Bytes::from_slice(alloc, b"HTTP/1.1 200 OK\r\n\r\n")?,
+        })?;
+    }
+    Book::new(alloc, entries, Bytes::from_vec(Vec::new(alloc)))
 }
 
-impl Input {
-    /// The length of the file in bytes, or the number of lines, replies or packages.
-    fn size(&self) -> usize {
-        match self {
-            Input::Text(text) => text.len(),
-            Input::Lines(derivation, _) => derivation.lines.as_slice().len(),
-            Input::Replies(book) => book.entries().len(),
-            Input::Stock(shelf, _) => shelf.packages().len(),
-        }
+// Looks up the request of each entry of the book, and counts those that are found.
+fn look_up(book: &Book) -> usize {
+    let entries = book.entries().iter();
+    entries
+        .filter(|entry| !book
+            .response(&entry.to, entry.request.as_slice())
+            .is_empty())
+        .count()
+}
+
+// Reads a shelf's file as JSON alone, and counts the members of `packages`.
+fn read_json(alloc: Global, text: &str) -> Result<usize, BenchError> {
+    let value = Value::from_str(alloc, text).map_err(|_| BenchError::Refused)?;
+    match value.get("packages").and_then(Value::as_object) {
+        Some(packages) => Ok(packages.len()),
+        None => Err(BenchError::Refused),
     }
 }
 
-/// A shelf of so many packages, with a request of what stands behind this end of each one's path.
-fn stock_of(alloc: Global, packages: u32, end: &str) -> Result<Input, BenchError> {
-    let text = shelf_file_of(alloc, packages)?;
-    let shelf = shelf_of(alloc, text.as_str())?;
-    Ok(Input::Stock(shelf, requests_of(alloc, packages, end)?))
+// The shelf of a file.
+fn shelf_of(alloc: Global, text: &str) -> Result<Shelf, BenchError> {
+    Shelf::read(alloc, text.as_bytes()).map_err(|_| BenchError::Refused)
 }
 
-/// The input of a piece at this size.
-fn input_of(alloc: Global, piece: Piece, size: u32) -> Result<Input, BenchError> {
+// A request of the list of each package, or of the manifest of its first release.
+fn requests_of(alloc: Global, shelf: &Shelf, lists: bool) -> Result<Items<Bytes>, NoMemory> {
+    let mut requests = Items::new(alloc);
+    for entry in shelf.packages() {
+        let identity = entry.identity.copy(alloc)?;
+        let key = match entry.releases.as_slice().first() {
+            Some(first) if !lists => Key::Manifest(identity, first.release.copy(alloc)?),
+            _ => Key::List(identity),
+        };
+        let path = key.text(alloc)?;
+        let text = format!(in alloc; "GET {path} HTTP/1.1\r\n\r\n")?;
+        requests.push(Bytes::from_vec(text.into_bytes()))?;
+    }
+    Ok(requests)
+}
+
+// Answers each request from the shelf, and adds up the lengths of the responses.
+fn answer_all(alloc: Global, shelf: &Shelf, requests: &[Bytes]) -> Result<usize, NoMemory> {
+    let mut length: usize = 0;
+    for request in requests {
+        let response = answer(alloc, shelf, request.as_slice())?;
+        length = length.saturating_add(response.as_slice().len());
+    }
+    Ok(length)
+}
+
+// What the piece needs of the file.
+fn input_of(alloc: Global, piece: &str, text: String) -> Result<Input, BenchError> {
     match piece {
-        Piece::Dump | Piece::Manifest => Ok(Input::Text(dump_of(alloc, size)?)),
-        Piece::Pins | Piece::Lock => Ok(Input::Text(lock_of(alloc, size)?)),
-        Piece::Proof => Ok(Input::Text(proof_of(alloc, size)?)),
-        Piece::Derivation | Piece::Check => {
-            let derivation = derivation_of(alloc, size).ok_or(BenchError::Refused)?;
+        "manifest" | "lock" | "proof" | "shelf" | "json" => Ok(Input::Text(text)),
+        "check" | "wide" => {
+            let mut derivation = derivation_of(alloc, text.as_str())?;
+            if piece == "wide" {
+                derivation = widened(alloc, &derivation)?;
+            }
             let facts = derivation.facts(alloc)?;
             Ok(Input::Lines(derivation, facts))
         }
-        Piece::Lookup => Ok(Input::Replies(book_of(alloc, size)?)),
-        Piece::Shelf | Piece::Json => Ok(Input::Text(shelf_file_of(alloc, size)?)),
-        Piece::Answer => stock_of(alloc, size, "/1.0.7/Package.json"),
-        Piece::List => stock_of(alloc, size, ""),
+        "lookup" => Ok(Input::Replies(book_of(alloc, text.as_str())?)),
+        "answer" | "list" => {
+            let shelf = shelf_of(alloc, text.as_str())?;
+            let requests = requests_of(alloc, &shelf, piece == "list")?;
+            Ok(Input::Stock(shelf, requests))
+        }
+        _ => Err(BenchError::Words),
     }
 }
 
-/// Runs the piece once, and gives what it came to. What only makes an input comes to its size.
-fn run_once(alloc: Global, piece: Piece, input: &Input) -> Result<usize, BenchError> {
-    match (piece, input) {
-        (Piece::Manifest, Input::Text(text)) => read_dump(alloc, text.as_str()),
-        (Piece::Lock, Input::Text(text)) => read_lock(alloc, text.as_str()),
-        (Piece::Proof, Input::Text(text)) => read_proof(alloc, text.as_str()),
-        (Piece::Check, Input::Lines(derivation, facts)) => {
-            check_lines(alloc, derivation, facts.as_slice())
-        }
-        (Piece::Lookup, Input::Replies(book)) => Ok(look_up(book)),
-        (Piece::Shelf, Input::Text(text)) => {
-            Ok(shelf_of(alloc, text.as_str())?.packages().len())
-        }
-        (Piece::Json, Input::Text(text)) => read_json(alloc, text.as_str()),
-        (_, Input::Stock(shelf, requests)) => { Ok(answer_all(alloc, shelf, requests.as_slice())?) }
-        _ => Ok(input.size()),
+// Runs a piece that reads a file.
+fn read_once(alloc: Global, piece: &str, text: &str) -> Result<usize, BenchError> {
+    match piece {
+        "manifest" => read_dump(alloc, text),
+        "lock" => read_lock(alloc, text),
+        "proof" => Ok(derivation_of(alloc, text)?.lines.as_slice().len()),
+        "json" => read_json(alloc, text),
+        _ => Ok(shelf_of(alloc, text)?.packages().len()),
     }
 }
 
-/// Runs the piece at this size so many times, and gives what the last run came to.
-pub fn run_piece(alloc: Global, piece: Piece, size: u32, times: u32) -> Result<usize, BenchError> {
-    let input = input_of(alloc, piece, size)?;
-    let mut count = input.size();
+// Runs the piece once, and gives what it came to.
+fn run_once(alloc: Global, piece: &str, input: &Input) -> Result<usize, BenchError> {
+    match input {
+        Input::Text(text) => read_once(alloc, piece, text.as_str()),
+        Input::Lines(derivation, facts) => check_lines(alloc, derivation, facts.as_slice()),
+        Input::Replies(book) => Ok(look_up(book)),
+        Input::Stock(shelf, requests) => Ok(answer_all(alloc, shelf, requests.as_slice())?),
+    }
+}
+
+/// Runs the piece of this name on the file's text so many times, and gives what the last run came to.
+///
+/// # Errors
+///
+/// `Words` where there is no such piece, and `Refused` where the file isn't what it needs.
+pub fn run_piece(
+    alloc: Global,
+    piece: &str,
+    text: String,
+    times: u32,
+) -> Result<usize, BenchError> {
+    let input = input_of(alloc, piece, text)?;
+    let mut count = 0;
     for _ in 0..times {
         count = run_once(alloc, piece, &input)?;
     }

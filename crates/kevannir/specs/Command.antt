@@ -1,17 +1,15 @@
--- The call that the words go to: `resolve` if that is the first word, else `still`.
-use Rattle.std.specs.Prelude.{ℕ, List, [], ◌∷◌, Bool, true, false, codes}
-use Rattle.spm_tool.specs.Check.{Still}
-use Rattle.spm_tool.specs.Course.{DeskState}
-use Rattle.spm_tool.specs.Resolves.{Resolves, SinkState}
-use Rattle.spm_tool.specs.Words.{same_text}
+-- What the program does with its words, by the command that they are.
+use Rattle.std.specs.Prelude.{ℕ, List, Option, Some, None}
+use Rattle.spm_outside.specs.Desk.{DeskState}
+use Rattle.spm_outside.specs.Sink.{SinkState}
+use Rattle.spm_tool.specs.Check.{ChecksFile}
+use Rattle.spm_tool.specs.Resolves.{RefusesWords, Runs}
+use Rattle.spm_tool.specs.Words.{Command, check, command_of, resolve}
 
-abbrev pub is_resolve : List (List ℕ) → Bool
-is_resolve [] = false
-is_resolve (command ∷ words) = same_text command (codes "resolve")
-
-abbrev pub AnswersBy : Bool → List (List ℕ) → DeskState → DeskState → SinkState → SinkState → ℕ → Type 0
-AnswersBy true words before after sink_before sink_after status = Resolves words before after sink_before sink_after status
-AnswersBy false words before after sink_before sink_after status = Still words before after sink_before sink_after status
+abbrev pub AnswersBy : Option Command → DeskState → DeskState → SinkState → SinkState → ℕ → Type 0
+AnswersBy (Some (resolve order)) before after sink_before sink_after status = Runs order before after sink_before sink_after status
+AnswersBy (Some (check file)) before after sink_before sink_after status = ChecksFile file before after sink_before sink_after status
+AnswersBy None before after sink_before sink_after status = RefusesWords before after sink_before sink_after status
 
 abbrev pub Answers : List (List ℕ) → DeskState → DeskState → SinkState → SinkState → ℕ → Type 0
-Answers words before after sink_before sink_after status = AnswersBy (is_resolve words) words before after sink_before sink_after status
+Answers words before after sink_before sink_after status = AnswersBy (command_of words) before after sink_before sink_after status

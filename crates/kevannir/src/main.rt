@@ -1,15 +1,15 @@
 //! The program: it hands the words behind its name to `spm_tool::resolve`, or to `spm_tool::still` for another command, over the
 //! system's files and standard output, and ends with the status that it gives.
 //!
-//! All that the program promises are the contracts of these calls, of which [`answer`] takes the one that the first word names;
-//! here alone the runtime is named.
+//! All that the program promises are the contracts of these calls, of which [`answer`] takes the one of the command that the words
+//! are; here alone the runtime is named.
 #![tactic(auto)]
 
-ghost use Rattle.std.specs.Prelude.{◌≡◌, IfOk, map as map_list, string_bytes, vec_len};
-ghost use Rattle.kevannir.specs.Command.{Answers, is_resolve};
+ghost use Rattle.std.specs.Prelude.{IfOk, ◌≡◌, map as map_list, string_bytes, vec_len};
+ghost use Rattle.kevannir.specs.Command.{Answers};
 
 use spm_outside::{Book, BookLink, Desk, FolderDesk, Gate, Link, OpenGate, Sink, StdSink};
-use spm_tool::{resolve, still};
+use spm_tool::{Command, resolve, still};
 use spm_version::{Bytes, Items, NoMemory};
 use std::alloc::Global;
 use std::env;
@@ -26,7 +26,7 @@ const LINKS: usize = 80;
 /// The exit status where there was no memory.
 const NO_MEMORY: u8 = 6;
 
-/// The words behind the program's name. A word that isn't UTF-8 makes them none.
+// The words behind the program's name. A word that isn't UTF-8 makes them none.
 fn words<R: Env + AllocGlobal>(rt: &R) -> Result<Vec<String>, NoMemory> {
     match env::args(rt) {
         Ok(args) => Ok(args.skip(1).collect(rt.alloc())?),
@@ -35,7 +35,7 @@ fn words<R: Env + AllocGlobal>(rt: &R) -> Result<Vec<String>, NoMemory> {
     }
 }
 
-/// Links over the book. None of them is opened yet.
+// Links over the book. None of them is opened yet.
 fn links<'b>(alloc: Global, book: &'b Book) -> Result<Vec<BookLink<'b>>, NoMemory>
     ensures { IfOk result (λ links. vec_len links ≡ LINKS) }
 {
@@ -46,17 +46,7 @@ fn links<'b>(alloc: Global, book: &'b Book) -> Result<Vec<BookLink<'b>>, NoMemor
     Ok(links)
 }
 
-/// Whether the command is `resolve`.
-fn is_resolve(words: &[String]) -> bool
-    ensures { result ≡ is_resolve (map_list string_bytes words.now) }
-{
-    match words.first() {
-        Some(command) => command.as_str() == "resolve",
-        None => false,
-    }
-}
-
-/// Hands the words to the call of their command.
+// Hands the words to the call of their command.
 fn answer<R: Threads + Wait + Sync, D: Desk, L: Link + Send, O: Sink, G: Gate>(
     rt: &R,
     alloc: Global,
@@ -67,19 +57,15 @@ fn answer<R: Threads + Wait + Sync, D: Desk, L: Link + Send, O: Sink, G: Gate>(
     gate: &G,
 ) -> u8
     ensures { Answers (map_list string_bytes words.now)
-        (record { files = D.files desk.old; failed = D.failed desk.old; faults = D.faults desk.old })
-        (record { files = D.files desk.new; failed = D.failed desk.new; faults = D.faults desk.new })
-        (record { written = O.written out.old; faults = O.faults out.old })
-        (record { written = O.written out.new; faults = O.faults out.new }) result }
+        (D.state desk.old) (D.state desk.new) (O.state out.old) (O.state out.new) result }
 {
-    if is_resolve(words) {
-        resolve(rt, alloc, words, desk, links, out, gate)
-    } else {
-        still(alloc, words, desk, out)
+    match Command::read(words) {
+        Some(Command::Resolve(_)) => resolve(rt, alloc, words, desk, links, out, gate),
+        _ => still(alloc, words, desk, out),
     }
 }
 
-/// Answers the words over the system's files and standard output.
+// Answers the words over the system's files and standard output.
 fn run<R: Env + Files + Print + AllocGlobal + Threads + Wait + Sync>(
     rt: &R,
 ) -> Result<u8, NoMemory> {

@@ -1,4 +1,4 @@
-use crate::support::{Asked, key};
+use crate::support::{assert_told, key};
 use spm_api::{guess, guess_root, reply_of};
 use spm_key::Key;
 use spm_manifest::Manifest;
@@ -21,36 +21,37 @@ const MANIFEST: &str =
 const NEEDS: &str =
     "/mona/linkedlist /mona/hash /identifiers?url=https%3A%2F%2Fexample.com%2Fzed%2FList ";
 
+const RELEASES: &str =
+    r#"{"releases":{"1.0.0":{},"1.1.0":{},"2.0.0-beta.1":{},"3.0.0":{"problem":{}}}}"#;
+
+// What a root with this manifest makes likely.
+fn guessed_root(alloc: Global, manifest: &str) -> Option<String> {
+    let manifest = Manifest::read(alloc, manifest.as_bytes()).ok()?;
+    paths(alloc, &guess_root(alloc, &manifest).ok()?)
+}
+
 #[test]
 fn a_root_makes_its_dependencies_likely(rt: HostRuntime) {
-    let alloc = rt.alloc();
-    let manifest = Manifest::read(alloc, MANIFEST.as_bytes()).expect(&rt, "a manifest");
-    let keys = guess_root(alloc, &manifest).expect(&rt, "memory");
-    let found = paths(alloc, &keys).expect(&rt, "memory");
-    assert_eq!(rt; found.as_str(), NEEDS);
+    assert_told(&rt, guessed_root(rt.alloc(), MANIFEST), NEEDS, "a root");
 }
 
 // What a response with this status and body to the request for the key makes likely.
-fn guessed(alloc: Global, asked: Asked, status: &str, body: &str) -> Option<String> {
+fn guessed(alloc: Global, asked: &str, status: &str, body: &str) -> Option<String> {
     let key = key(alloc, asked)?;
     let response = format!(in alloc; "HTTP/1.1 {status}\r\n\r\n{body}").ok()?;
     let reply = reply_of(alloc, &key, response.as_bytes()).ok()?;
-    let keys = guess(alloc, &key, &reply).ok()?;
-    paths(alloc, &keys)
+    paths(alloc, &guess(alloc, &key, &reply).ok()?)
 }
 
 #[test]
 fn replies_make_keys_likely(rt: HostRuntime) {
-    let list = Asked::List("mona.LinkedList");
-    let manifest = Asked::Manifest("mona.LinkedList", "1.1.0");
-    let archive = Asked::Archive("mona.LinkedList", "1.1.0");
-    let releases =
-        r#"{"releases":{"1.0.0":{},"1.1.0":{},"2.0.0-beta.1":{},"3.0.0":{"problem":{}}}}"#;
-    for (asked, status, body, told) in [
+    let list = "list mona.LinkedList";
+    let manifest = "manifest mona.LinkedList 1.1.0";
+    for (asked, status, body, wanted) in [
         (
             list,
             "200 OK",
-            releases,
+            RELEASES,
             "/mona/linkedlist/1.1.0/Package.json ",
         ),
         (
@@ -67,13 +68,12 @@ fn replies_make_keys_likely(rt: HostRuntime) {
         ),
         (list, "200 OK", r#"{"releases":{}}"#, ""),
         (list, "200 OK", "[", ""),
-        (list, "404 Not Found", releases, ""),
-        (archive, "200 OK", releases, ""),
+        (list, "404 Not Found", RELEASES, ""),
+        ("archive mona.LinkedList 1.1.0", "200 OK", RELEASES, ""),
         (manifest, "200 OK", MANIFEST, NEEDS),
-        (manifest, "200 OK", releases, ""),
+        (manifest, "200 OK", RELEASES, ""),
         (manifest, "404 Not Found", MANIFEST, ""),
     ] {
-        let found = guessed(rt.alloc(), asked, status, body).expect(&rt, "memory");
-        assert_eq!(rt; found.as_str(), told, "{status} {body}");
+        assert_told(&rt, guessed(rt.alloc(), asked, status, body), wanted, body);
     }
 }

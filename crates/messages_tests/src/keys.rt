@@ -1,91 +1,96 @@
-use crate::support::{Asked, key};
-use spm_key::{Body, Key, Reply};
-use spm_version::{Bytes, NoMemory};
+use crate::support::{assert_told, key, sides};
+use spm_key::{Body, Reply};
+use spm_version::Bytes;
 use std::alloc::Global;
+use std::process::Abort;
 
 // In ascending order.
-fn keys() -> [(Asked, &'static str); 10] {
-    [
-        (Asked::List("mona.Hash"), "/mona/hash"),
-        (Asked::List("mona.LinkedList"), "/mona/linkedlist"),
-        (
-            Asked::Manifest("mona.LinkedList", "1.1.0"),
-            "/mona/linkedlist/1.1.0/Package.json",
-        ),
-        (
-            Asked::Release("Mona.LinkedList", "1.0.0-Beta.1+X"),
-            "/mona/linkedlist/1.0.0-Beta.1+X",
-        ),
-        (
-            Asked::Release("mona.LinkedList", "1.0.0"),
-            "/mona/linkedlist/1.0.0",
-        ),
-        (
-            Asked::Release("mona.LinkedList", "1.10.0"),
-            "/mona/linkedlist/1.10.0",
-        ),
-        (Asked::Archive("a.b", "2.0.0"), "/a/b/2.0.0.zip"),
-        (
-            Asked::Archive("mona.LinkedList", "1.1.0"),
-            "/mona/linkedlist/1.1.0.zip",
-        ),
-        (
-            Asked::Identifiers("a-b.c_d~e é%&=?"),
-            "/identifiers?url=a-b.c_d~e%20%C3%A9%25%26%3D%3F",
-        ),
-        (
-            Asked::Identifiers("https://example.com/mona/LinkedList"),
-            "/identifiers?url=https%3A%2F%2Fexample.com%2Fmona%2FLinkedList",
-        ),
-    ]
+fn keys() -> &'static str {
+    "list mona.Hash => /mona/hash
+list mona.LinkedList => /mona/linkedlist
+manifest mona.LinkedList 1.1.0 => /mona/linkedlist/1.1.0/Package.json
+release Mona.LinkedList 1.0.0-Beta.1+X => /mona/linkedlist/1.0.0-Beta.1+X
+release mona.LinkedList 1.0.0 => /mona/linkedlist/1.0.0
+release mona.LinkedList 1.10.0 => /mona/linkedlist/1.10.0
+archive a.b 2.0.0 => /a/b/2.0.0.zip
+archive mona.LinkedList 1.1.0 => /mona/linkedlist/1.1.0.zip
+identifiers a-b.c_d~e é%&=? => /identifiers?url=a-b.c_d~e%20%C3%A9%25%26%3D%3F
+identifiers https://example.com/mona/LinkedList => /identifiers?url=https%3A%2F%2Fexample.com%2Fmona%2FLinkedList"
+}
+
+// The path of the key, by a copy that is equal.
+fn told_path(alloc: Global, asked: &str) -> Option<String> {
+    let key = key(alloc, asked)?;
+    let copy = key.copy(alloc).ok()?;
+    if copy != key {
+        return None;
+    }
+    Some(copy.text(alloc).ok()?.into_string())
 }
 
 #[test]
 fn keys_have_their_paths(rt: HostRuntime) {
-    let alloc = rt.alloc();
-    for (asked, path) in keys() {
-        let key = key(alloc, asked).expect(&rt, "a key");
-        let text = key.text(alloc).expect(&rt, "memory");
-        assert_eq!(rt; text.as_str(), path);
-        assert!(rt; key.copy(alloc).expect(&rt, "memory") == key, "{path}");
+    for line in keys().lines() {
+        let (asked, path) = sides(&rt, line);
+        assert_told(&rt, told_path(rt.alloc(), asked), path, line);
     }
+}
+
+fn is_below(alloc: Global, first: &str, second: &str) -> Option<bool> {
+    Some(key(alloc, first)? < key(alloc, second)?)
+}
+
+fn assert_below(rt: &impl Abort, alloc: Global, first: &str, second: &str) {
+    assert!(rt; is_below(alloc, first, second) == Some(true), "{second}");
 }
 
 #[test]
 fn keys_are_in_order(rt: HostRuntime) {
-    let alloc = rt.alloc();
-    let mut before: Option<Key> = None;
-    for (asked, path) in keys() {
-        let key = key(alloc, asked).expect(&rt, "a key");
-        if let Some(before) = before {
-            assert!(rt; before < key, "{path}");
-        }
-        before = Some(key);
+    let (_, others) = keys().split_once('\n').expect(&rt, "two keys");
+    for (line, next) in keys().lines().zip(others.lines()) {
+        assert_below(&rt, rt.alloc(), sides(&rt, line).0, sides(&rt, next).0);
     }
 }
 
-// Whether a copy prints the same.
-fn is_copied(alloc: Global, reply: &Reply) -> Result<bool, NoMemory> {
-    let copy = reply.copy(alloc)?;
-    let before = format!(in alloc; "{reply:?}")?;
-    let behind = format!(in alloc; "{copy:?}")?;
-    Ok(before == behind)
+fn is_same(first: &Body, second: &Body) -> bool {
+    match (first, second) {
+        (Body::Whole(bytes), Body::Whole(others)) => bytes.as_slice() == others.as_slice(),
+        (
+            Body::Sum { sum, length },
+            Body::Sum {
+                sum: other,
+                length: count,
+            },
+        ) => sum == other && length == count,
+        (Body::Garbled, Body::Garbled) | (Body::TooLong, Body::TooLong) => true,
+        _ => false,
+    }
+}
+
+// Whether the copy of a reply with this body is the same.
+fn is_copied(alloc: Global, body: Body) -> Option<bool> {
+    let reply = Reply { status: 200, body };
+    let copy = reply.copy(alloc).ok()?;
+    Some(copy.status == reply.status && is_same(&copy.body, &reply.body))
+}
+
+fn assert_copied(rt: &impl Abort, alloc: Global, body: Body) {
+    assert!(rt; is_copied(alloc, body) == Some(true));
 }
 
 #[test]
 fn replies_are_copied(rt: HostRuntime) {
     let alloc = rt.alloc();
-    let body = Bytes::from_slice(alloc, b"{}").expect(&rt, "memory");
-    for body in [
-        Body::Whole(body),
+    let bytes = Bytes::from_slice(alloc, b"{}").expect(&rt, "memory");
+    assert_copied(&rt, alloc, Body::Whole(bytes));
+    assert_copied(
+        &rt,
+        alloc,
         Body::Sum {
             sum: [7; 32],
             length: 3,
         },
-        Body::Garbled,
-        Body::TooLong,
-    ] {
-        let reply = Reply { status: 200, body };
-        assert!(rt; is_copied(alloc, &reply).expect(&rt, "memory"));
-    }
+    );
+    assert_copied(&rt, alloc, Body::Garbled);
+    assert_copied(&rt, alloc, Body::TooLong);
 }

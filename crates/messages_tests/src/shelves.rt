@@ -1,16 +1,23 @@
+use crate::support::{assert_told, sides};
 use spm_ident::Identity;
 use spm_json::ReadFault;
 use spm_shelf::Shelf;
-use std::alloc::{AllocError, Global};
+use std::alloc::Global;
+
+// In byte order the keys stand as Zed.C, mona-b.x, mona.B and mona.a.
+fn packages(alloc: Global) -> Option<Shelf> {
+    let json = r#"{"packages":{"mona.a":{},"mona.B":{},"mona-b.x":{},"Zed.C":{}}}"#;
+    Shelf::read(alloc, json.as_bytes()).ok()
+}
 
 // The identities, with a space behind each.
-fn identities(alloc: Global, shelf: &Shelf) -> Result<String, AllocError> {
+fn told_identities(alloc: Global, shelf: &Shelf) -> Option<String> {
     let mut text = String::new(alloc);
     for package in shelf.packages() {
         let identity = package.identity.text();
-        write!(text, "{identity} ")?;
+        write!(text, "{identity} ").ok()?;
     }
-    Ok(text)
+    Some(text)
 }
 
 // The identity of the package that is found.
@@ -22,15 +29,12 @@ fn told_package(alloc: Global, shelf: &Shelf, identity: &str) -> Option<String> 
     }
 }
 
-// In byte order the keys stand as Zed.C, mona-b.x, mona.B and mona.a.
 #[test]
 fn packages_are_in_the_order_of_their_identities(rt: HostRuntime) {
-    let alloc = rt.alloc();
-    let json = r#"{"packages":{"mona.a":{},"mona.B":{},"mona-b.x":{},"Zed.C":{}}}"#;
-    let shelf = Shelf::read(alloc, json.as_bytes()).expect(&rt, json);
-    let order = identities(alloc, &shelf).expect(&rt, "memory");
-    assert_eq!(rt; order.as_str(), "mona-b.x mona.a mona.b zed.c ");
-    for (identity, told) in [
+    let shelf = packages(rt.alloc()).expect(&rt, "a shelf");
+    let order = "mona-b.x mona.a mona.b zed.c ";
+    assert_told(&rt, told_identities(rt.alloc(), &shelf), order, "the order");
+    for (identity, wanted) in [
         ("mona-b.x", "mona-b.x"),
         ("mona.A", "mona.a"),
         ("mona.b", "mona.b"),
@@ -40,8 +44,12 @@ fn packages_are_in_the_order_of_their_identities(rt: HostRuntime) {
         ("mona.c", "none"),
         ("zed.d", "none"),
     ] {
-        let found = told_package(alloc, &shelf, identity).expect(&rt, "memory");
-        assert_eq!(rt; found.as_str(), told, "{identity}");
+        assert_told(
+            &rt,
+            told_package(rt.alloc(), &shelf, identity),
+            wanted,
+            identity,
+        );
     }
 }
 
@@ -79,31 +87,25 @@ fn shelves_are_written(rt: HostRuntime) {
             "{\"packages\":{\"mona.a\":{\"1.0.0-B+C\":{\"archive\":\"\",\"checksum\":\"e3b0c44298fc1c149afbf4c8996fb92427ae41e4649b934ca495991b7852b855\",\"manifest\":\"\"},\"1.10.0\":{\"problem\":\"gone\"},\"1.9.0\":{\"archive\":\"ffc0\",\"manifest\":\"{\\\"name\\\":\\\"é\\\"}\"}},\"mona.b\":{},\"zed.c\":{\"1.0.0\":{\"archive\":\"61\",\"manifest\":\"{}\",\"problem\":\"\"}}},\"urls\":{\"https://a\":[],\"https://b\":[\"mona.b\",\"mona.a\"]}}\n",
         ),
     ] {
-        let written = told_shelf(alloc, json).expect(&rt, "memory");
-        assert_eq!(rt; written.as_str(), text);
-        let again = told_shelf(alloc, text).expect(&rt, "memory");
-        assert_eq!(rt; again.as_str(), text);
+        assert_told(&rt, told_shelf(alloc, json), text, json);
+        assert_told(&rt, told_shelf(alloc, text), text, text);
     }
+}
+
+fn faults() -> &'static str {
+    r#" => /: not JSON
+{"packages":{}} x => /: not JSON
+[] => /: wrong kind
+{} => /packages: missing
+{"packages":{"mona.a":{},"Mona.A":{}}} => /packages: doubled
+{"packages":{"mona.a":{"1.0.0":{"manifest":"{}","archive":"6"}}},"urls":[]} => /packages: bad hex
+{"packages":{},"urls":[]} => /urls: wrong kind"#
 }
 
 #[test]
 fn the_first_fault_of_a_shelf_is_told(rt: HostRuntime) {
-    for (json, told) in [
-        ("", "/: not JSON"),
-        (r#"{"packages":{}} x"#, "/: not JSON"),
-        ("[]", "/: wrong kind"),
-        ("{}", "/packages: missing"),
-        (
-            r#"{"packages":{"mona.a":{},"Mona.A":{}}}"#,
-            "/packages: doubled",
-        ),
-        (
-            r#"{"packages":{"mona.a":{"1.0.0":{"manifest":"{}","archive":"6"}}},"urls":[]}"#,
-            "/packages: bad hex",
-        ),
-        (r#"{"packages":{},"urls":[]}"#, "/urls: wrong kind"),
-    ] {
-        let found = told_shelf(rt.alloc(), json).expect(&rt, "memory");
-        assert_eq!(rt; found.as_str(), told, "{json}");
+    for line in faults().lines() {
+        let (json, wanted) = sides(&rt, line);
+        assert_told(&rt, told_shelf(rt.alloc(), json), wanted, line);
     }
 }

@@ -4,18 +4,15 @@
 //!
 //! What holds of every input is a clause there. Here are
 //!
-//! - courses of calls over the objects in memory, with what each answers and leaves (`memory`, and `connections` for exchanges,
-//!   peers and doors);
-//! - one run of each call that can answer want of memory, where there is memory;
-//! - the printed texts of the faults;
+//! - courses of calls over the objects in memory, with what each answers and leaves (`scripts`): a script is lines, each a call, ` | ` and
+//!   its answer, which a [`stage::Stage`] plays; a further line costs no proof;
+//! - one run of each call that can answer want of memory, where there is memory, and the printed text of a fault;
 //! - the files and the output of the system, of which no clause tells (`system`).
-//!
-//! A test is a loop over a table of cases, or a few calls in a row.
 #![tactic(auto)]
 
 #[cfg(test)]
-mod connections;
+mod scripts;
 #[cfg(test)]
-mod memory;
+mod stage;
 #[cfg(test)]
 mod system;

@@ -3,22 +3,13 @@
 //! A clause of `spm_tool::resolve`, and one of `spm_tool::still`, say what every run does; these tests say that it was meant so: the
 //! expected files and lines were written by hand, and the sums come from another program. A crate with
 //! tests is proved twice, so the crates under test have none of their own.
+//!
+//! The cases are scripts (`scripts.rt`), a line a step, which a [`stage::Stage`] plays; a further case costs no proof. `system.rt` runs the
+//! call on the system's files.
 #![tactic(auto)]
 
 #[cfg(test)]
-mod cases;
-#[cfg(test)]
-mod checks;
-#[cfg(test)]
-mod first_path;
-#[cfg(test)]
-mod hostile;
-#[cfg(test)]
-mod lock_files;
-#[cfg(test)]
-mod refusals;
-#[cfg(test)]
-mod root;
+mod scripts;
 #[cfg(test)]
 mod stage;
 #[cfg(test)]

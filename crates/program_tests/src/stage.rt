@@ -1,108 +1,61 @@
 use spm_outside::{Book, BookLink, MemoryDesk, MemorySink, OpenGate};
-use spm_tool::resolve;
+use spm_tool::{resolve, still};
 use spm_version::{Bytes, Items, NoMemory};
 use std::alloc::Global;
-use std::process::Abort;
 use std::sync::Wait;
 use std::thread::Threads;
 
-/// A manifest without dependencies, as a text of a shelf.
-pub fn leaf() -> &'static str {
-    LEAF
-}
-
-/// The root's manifest with one dependency, on mona.LinkedList from 1.0.0 up to 2.0.0.
-pub fn one() -> &'static str {
-    ONE
-}
-
-/// The root's manifest without dependencies.
-pub fn none() -> &'static str {
-    NONE
-}
-
-/// The words of the one form that is built.
-pub fn built_words() -> [&'static str; 4] {
-    ["resolve", "--shelf", "s.json", "app"]
-}
-
-const LEAF: &str = r#"{\"name\":\"leaf\",\"toolsVersion\":{\"_version\":\"5.9.0\"}}"#;
-
-const ONE: &str =
-    r#"{"name":"app","dependencies":[{"registry":[{"identity":"mona.LinkedList","requirement":{"range":[{"lowerBound":"1.0.0","upperBound":"2.0.0"}]}}]}],"targets":[],"toolsVersion":{"_version":"5.9.0"}}"#;
-
-const NONE: &str =
-    r#"{"name":"app","dependencies":[],"targets":[],"toolsVersion":{"_version":"5.9.0"}}"#;
-
-/// Asserts the status, the report and the lock file that a run left.
-pub fn expect_left(rt: &impl Abort, left: &Left, status: u8, report: &str, lock: Option<&str>) {
-    assert_eq!(rt; left.status, status, "{report}");
-    assert_eq!(rt; left.out.written(), report.as_bytes(), "{report}");
-    match (left.desk.file("app/Package.resolved"), lock) {
-        (Some(written), Some(wanted)) => assert_eq!(rt;
-            written.as_slice(),
-            wanted.as_bytes(),
-            "{report}"
-        ),
-        (None, None) => {}
-        _ => panic!(rt; "a lock file too many or too few: {report}"),
-    }
-}
-
-/// What a run left.
+/// Where scripts are played: a desk, an output, and what is expected of them.
+///
+/// A script is lines, each a word and what stands behind it:
+///
+/// - `let NAME TEXT`: from here on `$NAME` stands for the text; `# ..` and an empty line do nothing;
+/// - `case ..`: an empty desk and an empty output; `desk N ..` and `sink N ..`: such, whose calls with these numbers fail;
+/// - `file NAME TEXT`: the file is put on the desk; `pad NAME N`: it is filled with spaces up to this length;
+/// - `run WORDS`: the program's call; `''` is the empty word;
+/// - `status N`, `faults N` (of the desk), `text NAME TEXT` (the file is just that), `has NAME TEXT`, `absent NAME`;
+/// - `out LINE`: the output has this line next, and at the next `case` no more; `silent`: it has none at all;
+/// - `= LINE` and then `is NAME`: the file is these lines.
 #[derive(Drop)]
-pub struct Left {
-    pub status: u8,
-    pub desk: MemoryDesk,
-    pub out: MemorySink,
-}
-
-/// A desk with a shelf and a root's manifest, whose calls with these numbers fail.
-pub fn desk_of(
+pub struct Stage {
     alloc: Global,
-    shelf: &str,
-    manifest: &str,
-    failing: &[u64],
-) -> Result<MemoryDesk, NoMemory> {
-    let mut desk = MemoryDesk::new(alloc, failing)?;
-    desk.set("s.json", shelf.as_bytes())?;
-    desk.set("app/Package.json", manifest.as_bytes())?;
-    Ok(desk)
+    lets: Vec<(String, String)>,
+    desk: MemoryDesk,
+    sink: MemorySink,
+    status: u8,
+    told: String,
+    wanted: String,
 }
 
-/// A root's manifest with these members.
-pub fn manifest_with(alloc: Global, members: &str) -> Result<String, NoMemory> {
-    Ok(format!(in alloc; r#"{{"name":"app",{members},"toolsVersion":{{"_version":"5.9.0"}}}}"#)?)
-}
-
-/// A root's manifest that needs these packages, each with its requirement.
-pub fn manifest_needing(alloc: Global, needs: &[(&str, &str)]) -> Result<String, NoMemory> {
-    let mut list = String::new(alloc);
-    for (index, (identity, requirement)) in needs.iter().enumerate() {
-        let comma = if index == 0 { "" } else { "," };
-        write!(
-            list,
-            r#"{comma}{{"registry":[{{"identity":"{identity}","requirement":{requirement}}}]}}"#
-        )?;
+// The numbers of a line.
+fn numbers(alloc: Global, text: &str) -> Result<Vec<u64>, NoMemory> {
+    let mut numbers = Vec::new(alloc);
+    for word in text.split_whitespace() {
+        numbers.push(word.parse().unwrap_or(0))?;
     }
-    let members = format!(in alloc; r#""dependencies":[{list}]"#)?;
-    manifest_with(alloc, members.as_str())
+    Ok(numbers)
 }
 
-/// A desk with one file.
-pub fn desk_with(alloc: Global, name: &str, text: &str) -> Result<MemoryDesk, NoMemory> {
-    let mut desk = MemoryDesk::new(alloc, &[])?;
-    desk.set(name, text.as_bytes())?;
-    Ok(desk)
-}
-
-/// Copies of the words.
-pub fn words_of(alloc: Global, words: &[&str]) -> Result<Vec<String>, NoMemory> {
-    let mut copies = Vec::new(alloc);
-    for word in words {
-        copies.push(String::from_str(alloc, word)?)?;
+// The words of a line.
+fn words(alloc: Global, text: &str) -> Result<Vec<String>, NoMemory> {
+    let mut words = Vec::new(alloc);
+    for word in text.split_whitespace() {
+        let word = if word == "''" { "" } else { word };
+        words.push(String::from_str(alloc, word)?)?;
     }
-    Ok(copies)
+    Ok(words)
+}
+
+// A text with each part of this name another.
+fn replaced(alloc: Global, text: &str, name: &str, value: &str) -> Result<String, NoMemory> {
+    let mut replaced = String::new(alloc);
+    for (place, piece) in text.split(name).enumerate() {
+        if place > 0 {
+            replaced.push_str(value)?;
+        }
+        replaced.push_str(piece)?;
+    }
+    Ok(replaced)
 }
 
 /// Eighty links over the book.
@@ -119,89 +72,172 @@ pub fn empty_book(alloc: Global) -> Result<Book, NoMemory> {
     Book::new(alloc, Items::new(alloc), Bytes::from_vec(Vec::new(alloc)))
 }
 
-/// Runs the words over the desk, with a sink whose calls with these numbers fail.
-pub fn run<R: Threads + Wait + Sync>(
+impl Stage {
+    fn new(alloc: Global) -> Result<Stage, NoMemory> {
+        Ok(Stage {
+            alloc,
+            lets: Vec::new(alloc),
+            desk: MemoryDesk::new(alloc, &[])?,
+            sink: MemorySink::new(alloc, &[])?,
+            status: 0,
+            told: String::new(alloc),
+            wanted: String::new(alloc),
+        })
+    }
+
+    // The line with the names that were let.
+    fn meant(&self, line: &str) -> Result<String, NoMemory> {
+        let mut text = String::from_str(self.alloc, line)?;
+        for (name, value) in &self.lets {
+            text = replaced(self.alloc, text.as_str(), name.as_str(), value.as_str())?;
+        }
+        Ok(text)
+    }
+
+    fn define(&mut self, text: &str) -> Result<bool, NoMemory> {
+        let (name, value) = text.split_once(' ').unwrap_or((text, ""));
+        let name = format!(in self.alloc; "${name}")?;
+        self.lets
+            .push((name, String::from_str(self.alloc, value)?))?;
+        Ok(true)
+    }
+
+    // Whether the output is what was expected.
+    fn is_told(&self) -> bool {
+        self.sink.written() == self.told.as_bytes()
+    }
+
+    fn begin(&mut self) -> Result<bool, NoMemory> {
+        let is_told = self.is_told();
+        self.desk = MemoryDesk::new(self.alloc, &[])?;
+        self.sink = MemorySink::new(self.alloc, &[])?;
+        self.told.clear();
+        Ok(is_told)
+    }
+
+    fn set(&mut self, text: &str) -> Result<bool, NoMemory> {
+        let (name, text) = text.split_once(' ').unwrap_or((text, ""));
+        self.desk.set(name, text.as_bytes())?;
+        Ok(true)
+    }
+
+    fn pad(&mut self, text: &str) -> Result<bool, NoMemory> {
+        let Some((name, length)) = text.split_once(' ') else {
+            return Ok(false);
+        };
+        let mut padded = Vec::new(self.alloc);
+        if let Some(bytes) = self.desk.file(name) {
+            padded.extend_from_slice(bytes.as_slice())?;
+        }
+        for _ in padded.len()..length.parse().unwrap_or(0) {
+            padded.push(b' ')?;
+        }
+        self.desk.set(name, padded.as_slice())?;
+        Ok(true)
+    }
+
+    // Runs the words, `resolve` by its call and all others by that of the commands that wait for nobody.
+    fn run<R: Threads + Wait + Sync>(&mut self, rt: &R, text: &str) -> Result<bool, NoMemory> {
+        let words = words(self.alloc, text)?;
+        let words = words.as_slice();
+        self.status = if text.starts_with("resolve") {
+            let book = empty_book(self.alloc)?;
+            let mut links = links_of(self.alloc, &book)?;
+            let (desk, sink) = (&mut self.desk, &mut self.sink);
+            resolve(rt, self.alloc, words, desk, &mut links, sink, &OpenGate)
+        } else {
+            still(self.alloc, words, &mut self.desk, &mut self.sink)
+        };
+        Ok(true)
+    }
+
+    fn expect(&mut self, line: &str) -> Result<bool, NoMemory> {
+        self.told.push_str(line)?;
+        self.told.push_str("\n")?;
+        Ok(true)
+    }
+
+    fn want(&mut self, line: &str) -> Result<bool, NoMemory> {
+        self.wanted.push_str(line)?;
+        self.wanted.push_str("\n")?;
+        Ok(true)
+    }
+
+    // Whether the file is what was wanted.
+    fn is_wanted(&mut self, name: &str) -> bool {
+        let found = self.desk.file(name);
+        let is = found.is_some_and(|bytes| bytes.as_slice() == self.wanted.as_bytes());
+        self.wanted.clear();
+        is
+    }
+
+    // Whether the file is just this text.
+    fn is_text(&self, text: &str) -> bool {
+        let (name, text) = text.split_once(' ').unwrap_or((text, ""));
+        let found = self.desk.file(name);
+        found.is_some_and(|bytes| bytes.as_slice() == text.as_bytes())
+    }
+
+    // Whether the file has this text somewhere.
+    fn has_text(&self, text: &str) -> bool {
+        let (name, text) = text.split_once(' ').unwrap_or((text, ""));
+        match self.desk.file(name) {
+            Some(bytes) => str::from_utf8(bytes.as_slice()).is_ok_and(|found| found.contains(text)),
+            None => false,
+        }
+    }
+
+    // What a line expects.
+    fn holds(&mut self, word: &str, text: &str) -> bool {
+        match word {
+            "status" => text.parse() == Ok(self.status),
+            "faults" => text.parse() == Ok(self.desk.faults()),
+            "absent" => self.desk.file(text).is_none(),
+            "text" => self.is_text(text),
+            "has" => self.has_text(text),
+            "is" => self.is_wanted(text),
+            "silent" => self.sink.written().is_empty(),
+            _ => word.is_empty() || word == "#",
+        }
+    }
+
+    // Plays a line, and answers whether it holds.
+    fn step<R: Threads + Wait + Sync>(&mut self, rt: &R, line: &str) -> Result<bool, NoMemory> {
+        let (word, text) = line.split_once(' ').unwrap_or((line, ""));
+        match word {
+            "let" => self.define(text),
+            "case" => self.begin(),
+            "desk" => {
+                self.desk = MemoryDesk::new(self.alloc, &numbers(self.alloc, text)?)?;
+                Ok(true)
+            }
+            "sink" => {
+                self.sink = MemorySink::new(self.alloc, &numbers(self.alloc, text)?)?;
+                Ok(true)
+            }
+            "file" => self.set(text),
+            "pad" => self.pad(text),
+            "run" => self.run(rt, text),
+            "out" => self.expect(text),
+            "=" => self.want(text),
+            _ => Ok(self.holds(word, text)),
+        }
+    }
+}
+
+/// Plays a script, and answers the number of the first line that doesn't hold, or 0.
+pub fn play<R: Threads + Wait + Sync>(
     rt: &R,
     alloc: Global,
-    words: &[&str],
-    mut desk: MemoryDesk,
-    sink_failing: &[u64],
-) -> Result<Left, NoMemory> {
-    let words = words_of(alloc, words)?;
-    let book = empty_book(alloc)?;
-    let mut links = links_of(alloc, &book)?;
-    let mut out = MemorySink::new(alloc, sink_failing)?;
-    let status = resolve(
-        rt,
-        alloc,
-        words.as_slice(),
-        &mut desk,
-        &mut links,
-        &mut out,
-        &OpenGate,
-    );
-    Ok(Left { status, desk, out })
-}
-
-/// A shelf with these packages.
-pub fn shelf_of(alloc: Global, packages: &str) -> Result<String, NoMemory> {
-    Ok(format!(in alloc; "{{\"packages\":{{{packages}}},\"urls\":{{}}}}")?)
-}
-
-/// A package of a shelf, whose releases have these versions and manifests.
-pub fn package_of(
-    alloc: Global,
-    identity: &str,
-    releases: &[(&str, &str)],
-) -> Result<String, NoMemory> {
-    let mut text = format!(in alloc; "\"{identity}\":{{")?;
-    for (index, (version, manifest)) in releases.iter().enumerate() {
-        let comma = if index == 0 { "" } else { "," };
-        write!(
-            text,
-            "{comma}\"{version}\":{{\"manifest\":\"{manifest}\",\"archive\":\"616263\"}}"
-        )?;
+    script: &str,
+) -> Result<usize, NoMemory> {
+    let mut stage = Stage::new(alloc)?;
+    for (place, line) in script.lines().enumerate() {
+        let line = stage.meant(line)?;
+        if !stage.step(rt, line.as_str())? {
+            return Ok(place.saturating_add(1));
+        }
     }
-    text.push_str("}")?;
-    Ok(text)
-}
-
-/// The report on a root that was refused.
-pub fn refused(alloc: Global, line: &str) -> Result<String, NoMemory> {
-    Ok(format!(in alloc;
-        "app: {line}\nroots 1: resolved 0, refuted 0, refused 1, faulty 0, differing 0, cancelled 0, memory 0\n"
-    )?)
-}
-
-/// The report on a root that has no selection, by what it needs.
-pub fn refuted(alloc: Global, need: &str) -> Result<String, NoMemory> {
-    Ok(format!(in alloc;
-        "app: no selection in 1 turns\n1. root needs {need}: [root chosen]\nSo no selection exists.\nroots 1: resolved 0, refuted 1, refused 0, faulty 0, differing 0, cancelled 0, memory 0\n"
-    )?)
-}
-
-/// The report on a root at one of whose files the desk failed.
-pub fn faulty(alloc: Global, line: &str) -> Result<String, NoMemory> {
-    Ok(format!(in alloc;
-        "app: {line}\nroots 1: resolved 0, refuted 0, refused 0, faulty 1, differing 0, cancelled 0, memory 0\n"
-    )?)
-}
-
-/// The report on a root that was resolved.
-pub fn resolved(alloc: Global, pins: usize, turns: usize) -> Result<String, NoMemory> {
-    Ok(format!(in alloc;
-        "app: resolved {pins} in {turns} turns\nroots 1: resolved 1, refuted 0, refused 0, faulty 0, differing 0, cancelled 0, memory 0\n"
-    )?)
-}
-
-/// A shelf with these versions of mona.LinkedList.
-pub fn shelf_with(alloc: Global, versions: &[&str]) -> Result<String, NoMemory> {
-    let mut releases = Vec::new(alloc);
-    for version in versions {
-        releases.push((*version, leaf()))?;
-    }
-    shelf_of(
-        alloc,
-        package_of(alloc, "mona.LinkedList", releases.as_slice())?.as_str(),
-    )
+    let rest = if stage.begin()? { 0 } else { usize::MAX };
+    Ok(rest)
 }

@@ -1,4 +1,5 @@
-pub mod GoodLemmas
+pub mod FormedLemmas
+pub mod CheckedLemmas
 pub mod FileLemmas
 pub mod SortLemmas
 pub mod TextLemmas

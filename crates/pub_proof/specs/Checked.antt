@@ -1,11 +1,14 @@
--- A checked derivation: each line is a fact that is given, or the resolution of two earlier lines, and the last line leaves
--- the root alone. The first bad line is the refusal.
+-- A checked derivation: each line is a fact that is given, or the resolution of two earlier lines, and the last line is a
+-- refutation. The first bad line is the refusal.
 use Rattle.std.specs.Prelude.{ℕ, ◌+◌, ◌-◌, ◌==◌, ◌&&◌, List, [], ◌∷◌, ◌++◌, length, not, nat_lt, Bool, true, slice_get, slice_index, Option, Some, None, Result, Ok, Err, if◌then◌else◌}
 use Rattle.std.specs.List.{list_all, list_any}
 use Rattle.pub_set.specs.Choices.{ChoiceSet, do_meet, is_empty, is_whole}
 use Rattle.pub_term.specs.Resolvent.{resolvent}
 use Rattle.pub_term.specs.Term.{set_at}
+use Rattle.pub_term.specs.declared.node.NodeName.{NodeName}
 use Rattle.pub_term.specs.declared.term.Term.{Term}
+use Rattle.pub_proof.specs.Order.{is_above}
+use Rattle.pub_proof.specs.Root.{is_refutation, root_of}
 use Rattle.pub_proof.specs.Same.{same_terms}
 use Rattle.pub_proof.specs.declared.derivation.Line.{Line}
 use Rattle.pub_proof.specs.declared.derivation.Line.TheVariants.{Fact, Resolve}
@@ -13,10 +16,6 @@ use Rattle.pub_proof.specs.declared.fault.ProofKind.{ProofKind}
 use Rattle.pub_proof.specs.declared.fault.ProofKind.TheVariants.{NoSuchLine, NoSuchNode, BadSet, NotAFact, NotOn, NotARefutation}
 
 -- the nodes strictly ascend
-abbrev pub is_above : Option ℕ → ℕ → Bool
-is_above None node = true
-is_above (Some before) node = nat_lt before node
-
 abbrev pub do_ascend : Option ℕ → List Term → Bool
 do_ascend before [] = true
 do_ascend before (term ∷ terms) = is_above before term.node && do_ascend (Some term.node) terms
@@ -98,14 +97,10 @@ lines_after sizes facts earlier [] = Ok earlier
 lines_after sizes facts earlier (line ∷ lines) =
     at_line (length earlier + 1) (line_in sizes facts earlier line) >>= λ terms. lines_after sizes facts (earlier ++ terms ∷ []) lines
 
--- no term, or one on the root alone
-abbrev pub is_refutation : List Term → Bool
-is_refutation terms = list_all (λ term. term.node == 0) terms
-
-abbrev pub last_in : ℕ → Option (List Term) → Result (List Term) LineFault
-last_in count None = Err (record { line = 0; kind = NotARefutation })
-last_in count (Some terms) = if is_refutation terms then Ok terms else Err (record { line = count; kind = NotARefutation })
+abbrev pub last_in : Option ℕ → ℕ → Option (List Term) → Result (List Term) LineFault
+last_in root count None = Err (record { line = 0; kind = NotARefutation })
+last_in root count (Some terms) = if is_refutation root terms then Ok terms else Err (record { line = count; kind = NotARefutation })
 
 -- what the last line says, or the first bad line
-abbrev pub checked_of : List ℕ → List (List Term) → List Line → Result (List Term) LineFault
-checked_of sizes facts lines = lines_after sizes facts [] lines >>= λ all. last_in (length all) (earlier_line all (length all))
+abbrev pub checked_of : List NodeName → List ℕ → List (List Term) → List Line → Result (List Term) LineFault
+checked_of nodes sizes facts lines = lines_after sizes facts [] lines >>= λ all. last_in (root_of nodes) (length all) (earlier_line all (length all))

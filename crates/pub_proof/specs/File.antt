@@ -1,4 +1,5 @@
 -- Reading a file of a derivation: what each node, choice and line of it has to be, and the derivation that it is.
+use Rattle.std.specs.Str.{bytes_eq}
 use Rattle.std.specs.Prelude.{ℕ, ◌&&◌, ◌==◌, suc, List, [], ◌∷◌, ◌++◌, length, map, codes, Bool, not, true, nat_lt, slice_index_or, Option, Some, None, is_some, unwrap_or, Ok, if◌then◌else◌}
 use Rattle.std.specs.List.{after_first, before_first, filter, flat_map, position_or_len}
 use Rattle.std.specs.Result.{result_ok}
@@ -7,7 +8,6 @@ use Rattle.serde_json.specs.Find.{get}
 use Rattle.spm_version.specs.declared.kind.Kind.TheVariants.{BadIdentity, BadTrait, Doubled, Missing, WrongKind}
 use Rattle.spm_trait.specs.TraitName.{trait_name_of}
 use Rattle.spm_json.specs.Field.{field_of, some_reading}
-use Rattle.spm_json.specs.Names.{same_name}
 use Rattle.spm_json.specs.Reading.{Reading, at_index, fault_here, or_fault, within, ◌>>=◌}
 use Rattle.spm_json.specs.Sequence.{items_of, pair_in, pair_of}
 use Rattle.spm_json.specs.Shape.{limited_list_of, list_of, object_of, small_number_of, text_of, whole_number_of, whole_of}
@@ -18,7 +18,7 @@ use Rattle.pub_term.specs.declared.cause.Cause.TheVariants.{Given}
 use Rattle.pub_term.specs.declared.node.NodeName.{NodeName}
 use Rattle.pub_term.specs.declared.node.NodeName.TheVariants.{Root, RootTrait, Package, PackageTrait}
 use Rattle.pub_term.specs.declared.term.Term.{Term}
-use Rattle.pub_proof.specs.Checked.{is_above}
+use Rattle.pub_proof.specs.Order.{is_above}
 use Rattle.pub_proof.specs.declared.derivation.Derivation.{Derivation}
 use Rattle.pub_proof.specs.declared.derivation.Line.{Line}
 use Rattle.pub_proof.specs.declared.derivation.Line.TheVariants as line
@@ -36,7 +36,7 @@ behind_hash text = if nat_lt (position_or_len is_hash text) (length text) then S
 
 -- the package of a node, which `root` doesn't have
 abbrev pub owner_in : List ℕ → Reading (Option (List ℕ))
-owner_in text = if same_name text (codes "root") then Ok None else some_reading (identity_in text)
+owner_in text = if bytes_eq text (codes "root") then Ok None else some_reading (identity_in text)
 
 abbrev pub trait_text : List ℕ → Reading (List ℕ)
 trait_text text = or_fault BadTrait (result_ok (trait_name_of text))

@@ -1,9 +1,12 @@
 pub mod Kinds
 pub mod Same
+pub mod Order
+pub mod Root
 pub mod Checked
 pub mod Sound
 pub mod Checks
-pub mod Good
+pub mod Formed
+pub mod IsChecked
 pub mod File
 pub mod Places
 pub mod ProofText

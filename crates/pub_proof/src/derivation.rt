@@ -16,6 +16,10 @@ pub enum Line {
 
 impl Line {
     /// A copy of the line.
+    ///
+    /// # Errors
+    ///
+    /// `NoMemory` alone.
     pub fn copy(&self, alloc: Global) -> Result<Line, NoMemory>
         ensures { IfOk result (λ line. line ≡ self.now) }
     {
@@ -46,17 +50,6 @@ pub struct Derivation {
     pub lines: Items<Line>,
 }
 
-// A copy of the names of nodes.
-fn copy_of_nodes(alloc: Global, nodes: &[NodeName]) -> Result<Items<NodeName>, NoMemory>
-    ensures { IfOk result (λ copy. copy ≡ nodes.now) }
-{
-    let mut copy = Items::new(alloc);
-    for node in nodes {
-        copy.push(node.copy(alloc)?)?;
-    }
-    Ok(copy)
-}
-
 // A copy of numbers.
 fn copy_of_sizes(alloc: Global, sizes: &[u32]) -> Result<Items<u32>, NoMemory>
     ensures { IfOk result (λ copy. copy ≡ sizes.now) }
@@ -67,6 +60,10 @@ fn copy_of_sizes(alloc: Global, sizes: &[u32]) -> Result<Items<u32>, NoMemory>
 
 impl Derivation {
     /// Its own facts: those of its fact lines, in their order.
+    ///
+    /// # Errors
+    ///
+    /// `NoMemory` alone.
     pub fn facts(&self, alloc: Global) -> Result<Items<Incompat>, NoMemory>
         ensures { IfOk result (λ facts. terms_of facts ≡ own_facts self.now.lines) }
     {
@@ -80,10 +77,14 @@ impl Derivation {
     }
 
     /// A copy of the derivation.
+    ///
+    /// # Errors
+    ///
+    /// `NoMemory` alone.
     pub fn copy(&self, alloc: Global) -> Result<Derivation, NoMemory>
         ensures { IfOk result (λ derivation. derivation ≡ self.now) }
     {
-        let nodes = copy_of_nodes(alloc, self.nodes.as_slice())?;
+        let nodes = self.nodes.copy(alloc)?;
         let sizes = copy_of_sizes(alloc, self.sizes.as_slice())?;
         let lines = self.lines.copy(alloc)?;
         Ok(Derivation {

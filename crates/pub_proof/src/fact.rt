@@ -1,12 +1,13 @@
 // The tests of a fact's line.
 ghost use Rattle.std.specs.Prelude.{◌≡◌, length, nat_lt, IfOk, None};
 ghost use Rattle.std.specs.List.{list_all, list_any};
-ghost use Rattle.pub_proof.specs.Checked.{at_line, do_ascend, fact_in, is_above, is_proper, terms_fault};
+ghost use Rattle.pub_proof.specs.Checked.{at_line, do_ascend, fact_in, is_proper, terms_fault};
 ghost use Rattle.pub_proof.specs.Checks.{Checks, terms_of};
-ghost use Rattle.pub_proof.specs.Good.{IsGood};
+ghost use Rattle.pub_proof.specs.Formed.{IsFormed};
 ghost use Rattle.pub_proof.specs.Same.{same_terms};
 
 use crate::fault::{ProofFault, ProofKind};
+use crate::order::is_above;
 use pub_term::{Incompat, Term};
 use std::alloc::Global;
 
@@ -27,16 +28,6 @@ fn are_known(sizes: &[u32], terms: &[Term]) -> bool
         }
     }
     true
-}
-
-// Whether the node is above the one before it.
-pub(crate) fn is_above(before: Option<u32>, node: u32) -> bool
-    ensures { result ≡ is_above before node }
-{
-    match before {
-        None => true,
-        Some(before) => before < node,
-    }
 }
 
 // Whether the nodes strictly ascend.
@@ -120,7 +111,7 @@ pub(crate) fn fact_line(
     line: u64,
 ) -> Result<Incompat, ProofFault>
     ensures checked { Checks result (at_line line (fact_in sizes.now (terms_of facts.now) incompat.now.terms)) }
-    ensures good { IfOk result (λ fact. IsGood sizes.now (terms_of facts.now) fact.terms) }
+    ensures formed { IfOk result (λ fact. IsFormed sizes.now fact.terms) }
 {
     if let Some(kind) = terms_fault(sizes, incompat.terms.as_slice()) {
         return Err(ProofFault::At { line, kind });

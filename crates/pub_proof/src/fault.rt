@@ -20,7 +20,7 @@ pub enum ProofKind {
     NotAFact,
     /// One of the two lines has no term on the node, or their sets on another node don't meet.
     NotOn,
-    /// The last line has a term on another node than the root, or there is no line.
+    /// The last line has a term on another node than the root, which is the first node that is named so; or there is no line.
     NotARefutation,
 }
 
@@ -61,14 +61,6 @@ impl fmt::Display for ProofFault {
 }
 
 impl Error for ProofFault {}
-
-impl From<NoMemory> for ProofFault {
-    ghost from_gives = { λ _ e. e ≡ Memory };
-
-    fn from(_e: NoMemory) -> ProofFault {
-        ProofFault::Memory
-    }
-}
 
 impl From<AllocError> for ProofFault {
     ghost from_gives = { λ _ e. e ≡ Memory };

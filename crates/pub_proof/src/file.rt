@@ -2,11 +2,20 @@
 ghost use Rattle.std.specs.Prelude.{◌≡◌, IfOk, None, map, suc, length};
 ghost use Rattle.pub_set.specs.Choices.{numbers_below};
 ghost use Rattle.spm_json.specs.Reading.{Gives};
-ghost use Rattle.pub_proof.specs.File.{are_choices, by_node, derivation_in, derivation_reading, line_of, set_in, term_of, terms_of};
+ghost use Rattle.pub_proof.specs.File.{
+  are_choices,
+  by_node,
+  derivation_in,
+  derivation_reading,
+  line_of,
+  set_in,
+  term_of,
+  terms_of,
+};
 
 use crate::derivation::{Derivation, Line};
-use crate::fact::is_above;
 use crate::nodes::Nodes;
+use crate::order::is_above;
 use crate::written::{WrittenLine, WrittenTerm};
 use pub_set::Choices;
 use pub_term::{Cause, Incompat, Term};
@@ -116,12 +125,11 @@ fn term(alloc: Global, nodes: &Nodes, written: &WrittenTerm) -> Result<Term, NoM
 fn set(alloc: Global, size: u32, numbers: &[u32]) -> Result<Choices, NoMemory>
     ensures { IfOk result (λ set. set ≡ set_in size numbers.now) }
 {
-    let set = if are_choices(size, numbers) {
+    if are_choices(size, numbers) {
         Choices::of(alloc, size, numbers)
     } else {
         Choices::none(alloc, size)
-    };
-    set.map_err(|_| NoMemory)
+    }
 }
 
 // Whether the numbers ascend, each below the size.

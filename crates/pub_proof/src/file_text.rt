@@ -6,7 +6,21 @@ ghost use Rattle.std.specs.Ordering.{nat_cmp};
 ghost use Rattle.serde_json.specs.View.{view};
 ghost use Rattle.serde_json.specs.Data.{string};
 ghost use Rattle.pub_term.specs.Node.{node_text};
-ghost use Rattle.pub_proof.specs.ProofText.{choices_data, derivation_data, file_data, is_named, line_data, list_data, name_data, names_node, nodes_data, number_data, pair_data, proof_text, term_data};
+ghost use Rattle.pub_proof.specs.ProofText.{
+  choices_data,
+  derivation_data,
+  file_data,
+  is_named,
+  line_data,
+  list_data,
+  name_data,
+  names_node,
+  nodes_data,
+  number_data,
+  pair_data,
+  proof_text,
+  term_data,
+};
 
 use crate::derivation::{Derivation, Line};
 use crate::file::FORMAT;
@@ -14,7 +28,7 @@ use pub_set::Choices;
 use pub_term::{NodeName, Term};
 use serde_json::{Value, json};
 use spm_version::{Bytes, NoMemory};
-use std::alloc::{AllocError, Global};
+use std::alloc::Global;
 use std::collections::BTreeSet;
 
 impl Derivation {
@@ -34,6 +48,7 @@ impl Derivation {
     }
 }
 
+// The file of a derivation, as JSON.
 fn derivation_value(alloc: Global, derivation: &Derivation) -> Result<Value, NoMemory>
     ensures { IfOk result (λ value. view value ≡ derivation_data derivation.now) }
 {
@@ -43,17 +58,17 @@ fn derivation_value(alloc: Global, derivation: &Derivation) -> Result<Value, NoM
         derivation.lines.as_slice(),
     )?;
     let nodes = nodes_value(alloc, derivation)?;
-    let value = file_value(alloc, lines, nodes)?;
-    Ok(value)
+    file_value(alloc, lines, nodes)
 }
 
 // The whole file, of its lines and nodes.
-fn file_value(alloc: Global, lines: Value, nodes: Value) -> Result<Value, AllocError>
+fn file_value(alloc: Global, lines: Value, nodes: Value) -> Result<Value, NoMemory>
     ensures { IfOk result (λ value. view value ≡ file_data (view lines) (view nodes)) }
 {
     json!(in alloc; {"lines": lines, "nodes": nodes, "version": FORMAT})
 }
 
+// The list of lines.
 fn lines_value(alloc: Global, nodes: &[NodeName], lines: &[Line]) -> Result<Value, NoMemory>
     ensures { IfOk result (λ value. view value ≡ list_data (map (line_data nodes.now) lines.now)) }
 {
@@ -64,6 +79,7 @@ fn lines_value(alloc: Global, nodes: &[NodeName], lines: &[Line]) -> Result<Valu
     Ok(Value::Array(values))
 }
 
+// A line: a fact with its terms, or the two lines that it resolves, with the node.
 fn line_value(alloc: Global, nodes: &[NodeName], line: &Line) -> Result<Value, NoMemory>
     ensures { IfOk result (λ value. view value ≡ line_data nodes.now line.now) }
 {
@@ -79,6 +95,7 @@ fn line_value(alloc: Global, nodes: &[NodeName], line: &Line) -> Result<Value, N
     }
 }
 
+// The list of a fact's terms.
 fn terms_value(alloc: Global, nodes: &[NodeName], terms: &[Term]) -> Result<Value, NoMemory>
     ensures { IfOk result (λ value. view value ≡ list_data (map (term_data nodes.now) terms.now)) }
 {
@@ -89,6 +106,7 @@ fn terms_value(alloc: Global, nodes: &[NodeName], terms: &[Term]) -> Result<Valu
     Ok(Value::Array(values))
 }
 
+// A term: the name of its node, and its choices.
 fn term_value(alloc: Global, nodes: &[NodeName], term: &Term) -> Result<Value, NoMemory>
     ensures { IfOk result (λ value. view value ≡ term_data nodes.now term.now) }
 {
@@ -97,10 +115,11 @@ fn term_value(alloc: Global, nodes: &[NodeName], term: &Term) -> Result<Value, N
     Ok(json!(in alloc; [name, choices])?)
 }
 
+// The list of a set's choices.
 fn choices_value(alloc: Global, choices: &Choices) -> Result<Value, NoMemory>
     ensures { IfOk result (λ value. view value ≡ choices_data choices.now.members) }
 {
-    let numbers = choices.to_vec(alloc).map_err(|_| NoMemory)?;
+    let numbers = choices.to_vec(alloc)?;
     let mut values = Vec::new(alloc);
     for number in numbers.as_slice() {
         values.push(Value::from(*number))?;
@@ -142,6 +161,7 @@ fn nodes_value(alloc: Global, derivation: &Derivation) -> Result<Value, NoMemory
     Ok(Value::Array(values))
 }
 
+// A node: its name, and the size of its sets.
 fn node_value(alloc: Global, name: &NodeName, size: u32) -> Result<Value, NoMemory>
     ensures { IfOk result (λ value. view value ≡ pair_data (string (node_text name.now)) (number_data size)) }
 {

@@ -5,7 +5,7 @@ ghost use Rattle.std.specs.Option.{option_copied, option_map};
 ghost use Rattle.pub_term.specs.Term.{set_at};
 ghost use Rattle.pub_proof.specs.Checked.{at_line, can_resolve, earlier_line, has_node, meets_in, resolved_in};
 ghost use Rattle.pub_proof.specs.Checks.{Checks, terms_of};
-ghost use Rattle.pub_proof.specs.Good.{AreGood, IsGood, SizesAgree};
+ghost use Rattle.pub_proof.specs.Formed.{AreFormed, IsFormed, SizesAgree};
 
 use crate::fault::{ProofFault, ProofKind};
 use pub_term::{Incompat, Term, resolve};
@@ -72,16 +72,15 @@ pub(crate) fn earlier_line(earlier: &[Incompat], number: u64) -> Option<&Incompa
 fn resolved(
     alloc: Global,
     sizes: &[u32],
-    facts: &[Incompat],
     first: &Incompat,
     second: &Incompat,
     on: u32,
     line: u64,
 ) -> Result<Incompat, ProofFault>
-    requires first { IsGood sizes.now (terms_of facts.now) first.now.terms }
-    requires second { IsGood sizes.now (terms_of facts.now) second.now.terms }
+    requires first { IsFormed sizes.now first.now.terms }
+    requires second { IsFormed sizes.now second.now.terms }
     ensures checked { Checks result (at_line line (resolved_in (length sizes.now) (Some first.now.terms) (Some second.now.terms) on)) }
-    ensures good { IfOk result (λ incompat. IsGood sizes.now (terms_of facts.now) incompat.terms) }
+    ensures formed { IfOk result (λ incompat. IsFormed sizes.now incompat.terms) }
 {
     if on as usize >= sizes.len() {
         let kind = ProofKind::NoSuchNode;
@@ -99,16 +98,15 @@ fn resolved(
 pub(crate) fn resolved_line(
     alloc: Global,
     sizes: &[u32],
-    facts: &[Incompat],
     earlier: &[Incompat],
     cited: (u64, u64),
     on: u32,
     line: u64,
 ) -> Result<Incompat, ProofFault>
-    requires { AreGood sizes.now (terms_of facts.now) (terms_of earlier.now) }
+    requires { AreFormed sizes.now (terms_of earlier.now) }
     ensures checked { Checks result (at_line line (resolved_in (length sizes.now)
         (earlier_line (terms_of earlier.now) cited.0) (earlier_line (terms_of earlier.now) cited.1) on)) }
-    ensures good { IfOk result (λ incompat. IsGood sizes.now (terms_of facts.now) incompat.terms) }
+    ensures formed { IfOk result (λ incompat. IsFormed sizes.now incompat.terms) }
 {
     let kind = ProofKind::NoSuchLine;
     let Some(first) = earlier_line(earlier, cited.0) else {
@@ -117,5 +115,5 @@ pub(crate) fn resolved_line(
     let Some(second) = earlier_line(earlier, cited.1) else {
         return Err(ProofFault::At { line, kind });
     };
-    resolved(alloc, sizes, facts, first, second, on, line)
+    resolved(alloc, sizes, first, second, on, line)
 }

@@ -1,5 +1,5 @@
 pub mod AscendingLemmas
-pub mod MergeLemmas
-pub mod OthersLemmas
-pub mod PlaceLemmas
+pub mod RunLemmas
+pub mod StepLemmas
 pub mod SetLemmas
+pub mod PlaceLemmas

@@ -1,7 +1,7 @@
 -- Sets of choices: finite sets of numbers below a size, told by their members in ascending order. Each operation is
 -- said over all numbers below the size.
-use Rattle.std.specs.Prelude.{◌≡◌, ℕ, ◌==◌, ◌&&◌, ◌||◌, zero, suc, List, [], ◌∷◌, ◌++◌, Bool, not, nat_eq}
-use Rattle.std.specs.Cmp.Lexicographic.{pointwise}
+use Rattle.std.specs.Str.{bytes_eq}
+use Rattle.std.specs.Prelude.{◌≡◌, ℕ, ◌==◌, ◌&&◌, ◌||◌, zero, suc, List, [], ◌∷◌, ◌++◌, Bool, not}
 use Rattle.std.specs.List.{filter, list_all, list_any}
 
 pub record ChoiceSet : Type 0 where
@@ -64,4 +64,4 @@ is_whole set = list_all (has set) (numbers_below set.size)
 
 -- the same set of choices
 abbrev pub same_set : ChoiceSet → ChoiceSet → Bool
-same_set first second = first.size == second.size && pointwise nat_eq first.members second.members
+same_set first second = first.size == second.size && bytes_eq first.members second.members

@@ -1,3 +1,4 @@
 pub mod Ascending
 pub mod Choices
 pub mod ChoicesLaws
+pub mod Runs

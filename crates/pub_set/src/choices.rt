@@ -15,9 +15,13 @@ ghost use Rattle.pub_set.specs.Choices.{
   union,
 };
 ghost use Rattle.pub_set.specs.ChoicesLaws.{same_set_equiv};
+ghost use Rattle.pub_set.specs.Runs.{runs_of};
 
-use crate::ascending::{contains, in_order, merged, others};
-use crate::memory::NoMemory;
+use crate::NoMemory;
+use crate::runs::{
+    Run, are_whole, are_within, do_meet, lies_in, of_numbers, others, shared, to_numbers, united,
+};
+use spm_version::Duplicate;
 use std::alloc::Global;
 use std::marker::Model;
 
@@ -25,39 +29,48 @@ use std::marker::Model;
 #[derive(Debug, Drop)]
 pub struct Choices {
     size: u32,
-    // Ascending, each below the size.
-    members: Vec<u32>,
+    // Ascending, with a gap between two neighbours, the last one's last below the size.
+    runs: Vec<Run>,
 }
 
 impl Model for Choices {
-    ghost use Rattle.pub_set.specs.Ascending.{IsAscending};
+    ghost use Rattle.std.specs.Prelude.{◌+◌};
     ghost use Rattle.pub_set.specs.Choices.{ChoiceSet};
+    ghost use Rattle.pub_set.specs.Runs.{AreRuns, numbers_in};
 
     ghost Value = { ChoiceSet };
 
-    ghost view = { λ set. record { size = set.size; members = set.members.items } };
+    ghost view = { λ set. record { size = set.size; members = numbers_in set.runs.items } };
 
-    ghost invariant = { λ set. IsAscending 0 set.size set.members.items };
+    ghost invariant = { λ set. AreRuns 0 (set.size + 1) set.runs.items };
 }
 
 impl Choices {
     /// The set without choices, of this size.
+    ///
+    /// # Errors
+    ///
+    /// `NoMemory` alone.
     pub fn none(alloc: Global, size: u32) -> Result<Choices, NoMemory>
         ensures { IfOk result (λ set. set ≡ no_choices size) }
     {
         Ok(Choices {
             size,
-            members: Vec::new(alloc),
+            runs: Vec::new(alloc),
         })
     }
 
     /// The set of these choices, in any order and with repeats.
+    ///
+    /// # Errors
+    ///
+    /// `NoMemory` alone.
     pub fn of(alloc: Global, size: u32, choices: &[u32]) -> Result<Choices, NoMemory>
         requires { All (λ choice. choice < size) choices.now }
         ensures { IfOk result (λ set. set ≡ choices_of size choices.now) }
     {
-        let members = in_order(alloc, choices)?;
-        Ok(Choices { size, members })
+        let runs = of_numbers(alloc, choices)?;
+        Ok(Choices { size, runs })
     }
 
     /// How many choices there are, in the set or not.
@@ -73,7 +86,7 @@ impl Choices {
     pub fn has(&self, choice: u32) -> bool
         ensures { result ≡ has self.now choice }
     {
-        contains(&self.members, choice)
+        lies_in(&self.runs, choice)
     }
 
     /// Whether each of its choices is in the other set.
@@ -81,7 +94,7 @@ impl Choices {
         requires { self.now.size ≡ other.now.size }
         ensures { result ≡ is_within self.now other.now }
     {
-        self.members.iter().all(|member| other.has(*member))
+        are_within(&self.runs, &other.runs)
     }
 
     /// Whether some choice is in both.
@@ -89,46 +102,53 @@ impl Choices {
         requires { self.now.size ≡ other.now.size }
         ensures { result ≡ do_meet self.now other.now }
     {
-        self.members.iter().any(|member| other.has(*member))
+        do_meet(&self.runs, &other.runs)
     }
 
     /// The choices that are in both.
+    ///
+    /// # Errors
+    ///
+    /// `NoMemory` alone.
     pub fn intersect(&self, alloc: Global, other: &Choices) -> Result<Choices, NoMemory>
         requires { self.now.size ≡ other.now.size }
         ensures { IfOk result (λ set. set ≡ intersection self.now other.now) }
     {
-        let shared = self
-            .members
-            .iter()
-            .copied()
-            .filter(|member| other.has(*member));
-        let members = shared.collect(alloc)?;
+        let runs = shared(alloc, &self.runs, &other.runs)?;
         Ok(Choices {
             size: self.size,
-            members,
+            runs,
         })
     }
 
     /// The choices that are in one of them.
+    ///
+    /// # Errors
+    ///
+    /// `NoMemory` alone.
     pub fn unite(&self, alloc: Global, other: &Choices) -> Result<Choices, NoMemory>
         requires { self.now.size ≡ other.now.size }
         ensures { IfOk result (λ set. set ≡ union self.now other.now) }
     {
-        let members = merged(alloc, &self.members, &other.members)?;
+        let runs = united(alloc, &self.runs, &other.runs)?;
         Ok(Choices {
             size: self.size,
-            members,
+            runs,
         })
     }
 
     /// The choices that are not in the set.
+    ///
+    /// # Errors
+    ///
+    /// `NoMemory` alone.
     pub fn opposite(&self, alloc: Global) -> Result<Choices, NoMemory>
         ensures { IfOk result (λ set. set ≡ opposite self.now) }
     {
-        let members = others(alloc, self.size, &self.members)?;
+        let runs = others(alloc, self.size, &self.runs)?;
         Ok(Choices {
             size: self.size,
-            members,
+            runs,
         })
     }
 
@@ -136,32 +156,46 @@ impl Choices {
     pub fn is_empty(&self) -> bool
         ensures { result ≡ is_empty self.now }
     {
-        self.members.is_empty()
+        self.runs.is_empty()
     }
 
     /// Whether it has every choice below its size.
     pub fn is_whole(&self) -> bool
         ensures { result ≡ is_whole self.now }
     {
-        self.members.len() == self.size as usize
+        are_whole(self.size, &self.runs)
+    }
+
+    /// Its maximal runs, ascending. It takes no memory, and lends what the set keeps.
+    pub fn runs(&self) -> &[Run]
+        ensures { result.now ≡ runs_of self.now }
+    {
+        &self.runs
     }
 
     /// Its choices, ascending.
+    ///
+    /// # Errors
+    ///
+    /// `NoMemory` alone.
     pub fn to_vec(&self, alloc: Global) -> Result<Vec<u32>, NoMemory>
         ensures { IfOk result (λ choices. choices.items ≡ self.now.members) }
     {
-        let choices = Vec::from_slice(alloc, &self.members)?;
-        Ok(choices)
+        to_numbers(alloc, &self.runs)
     }
 
     /// A copy of the set.
+    ///
+    /// # Errors
+    ///
+    /// `NoMemory` alone.
     pub fn copy(&self, alloc: Global) -> Result<Choices, NoMemory>
         ensures { IfOk result (λ set. set ≡ self.now) }
     {
-        let members = Vec::from_slice(alloc, &self.members)?;
+        let runs = Vec::from_slice(alloc, &self.runs)?;
         Ok(Choices {
             size: self.size,
-            members,
+            runs,
         })
     }
 }
@@ -172,10 +206,16 @@ impl PartialEq for Choices {
     ghost laws = { partial_equiv_from_equiv same_set_equiv };
 
     fn eq(&self, other: &Choices) -> bool {
-        self.size == other.size && self.members == other.members
+        self.size == other.size && self.runs == other.runs
     }
 }
 
 impl Eq for Choices {
     ghost laws = { same_set_equiv };
+}
+
+impl Duplicate for Choices {
+    fn duplicate(&self, alloc: Global) -> Result<Choices, NoMemory> {
+        self.copy(alloc)
+    }
 }

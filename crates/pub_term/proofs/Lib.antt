@@ -3,3 +3,5 @@ pub mod ResolventLemmas
 pub mod ProperLemmas
 pub mod StepLemmas
 pub mod SoundLemmas
+pub mod KnownLemmas
+pub mod SizedLemmas

@@ -15,6 +15,7 @@ set_of_both first second on node = joined (node == on) (set_at first node) (set_
 abbrev pub terms_on : (ℕ → Option ChoiceSet) → List ℕ → List Term
 terms_on set_of nodes = flat_map (λ node. with_node node (set_of node)) nodes
 
+-- terms on nodes above one are told by what is said above it
 terms_on-above : (f g : ℕ → Option ChoiceSet) (low : ℕ) (nodes : List ℕ) → AreAbove low nodes → ((node : ℕ) → low < node → f node ≡ g node)
     → terms_on f nodes ≡ terms_on g nodes
 terms_on-above f g low [] above same = refl
@@ -23,6 +24,7 @@ terms_on-above f g low (node ∷ nodes) above same =
 
 -- ---- the steps
 
+-- the resolvent begins with the first list's head where that is the least
 pub resolvent-first : (term : Term) (first second : List Term) (on : ℕ) → AreNodesAscending (term ∷ first) → AreAbove term.node (node_list second)
     → resolvent (term ∷ first) second on ≡ term ∷ resolvent first second on
 resolvent-first term first second on up above =
@@ -35,6 +37,7 @@ resolvent-first term first second on up above =
     (AreAbove-nodes_of term.node first second above_first above)
     (λ node over. ap (λ set. joined (node == on) set (set_at second node)) (set_at-tail term first node (λ e. omega arith))))
 
+-- and with the second's where that is
 pub resolvent-second : (first : List Term) (term : Term) (second : List Term) (on : ℕ) → AreAbove term.node (node_list first)
     → AreNodesAscending (term ∷ second) → resolvent first (term ∷ second) on ≡ term ∷ resolvent first second on
 resolvent-second first term second on above up =
@@ -47,6 +50,7 @@ resolvent-second first term second on above up =
     (AreAbove-nodes_of term.node first second above above_second)
     (λ node over. ap (λ set. joined (node == on) (set_at first node) set) (set_at-tail term second node (λ e. omega arith))))
 
+-- and with what both say where the heads are on one node
 pub resolvent-both : (term other : Term) (first second : List Term) (on : ℕ) → term.node ≡ other.node → AreNodesAscending (term ∷ first)
     → AreNodesAscending (other ∷ second)
     → resolvent (term ∷ first) (other ∷ second) on
@@ -70,6 +74,7 @@ resolvent-nil_first (term ∷ second) on up =
     resolvent-second [] term second on tt up
     ∙ ap (λ terms. term ∷ terms) (resolvent-nil_first second on (AreNodesAscending-tail term second up))
 
+-- with nothing to resolve it is the first list
 pub resolvent-nil_second : (first : List Term) (on : ℕ) → AreNodesAscending first → resolvent first [] on ≡ first
 resolvent-nil_second [] on up = refl
 resolvent-nil_second (term ∷ first) on up =
@@ -77,28 +82,33 @@ resolvent-nil_second (term ∷ first) on up =
 
 -- ---- it ascends
 
+-- a term above a node before others above it
 AreAbove-with_node : (low node : ℕ) (set : Option ChoiceSet) (terms : List Term) → low < node → AreAbove low (node_list terms)
     → AreAbove low (node_list (with_node node set ++ terms))
 AreAbove-with_node low node None terms below above = above
 AreAbove-with_node low node (Some set) terms below above = (below, above)
 
+-- terms on nodes above one are above it
 AreAbove-terms_on : (set_of : ℕ → Option ChoiceSet) (low : ℕ) (nodes : List ℕ) → AreAbove low nodes → AreAbove low (node_list (terms_on set_of nodes))
 AreAbove-terms_on set_of low [] above = tt
 AreAbove-terms_on set_of low (node ∷ nodes) above =
     AreAbove-with_node low node (set_of node) (terms_on set_of nodes) above.0 (AreAbove-terms_on set_of low nodes above.1)
 
+-- a term before those above it
 AreNodesAscending-with_node : (node : ℕ) (set : Option ChoiceSet) (terms : List Term) → AreAbove node (node_list terms) → AreNodesAscending terms
     → AreNodesAscending (with_node node set ++ terms)
 AreNodesAscending-with_node node None terms above up = up
 AreNodesAscending-with_node node (Some set) terms above up =
     AreNodesAscending-cons (record { node = node; choices = set }) terms above up
 
+-- terms on nodes that ascend do so
 AreNodesAscending-terms_on : (set_of : ℕ → Option ChoiceSet) (nodes : List ℕ) → AreUp nodes → AreNodesAscending (terms_on set_of nodes)
 AreNodesAscending-terms_on set_of [] up = tt
 AreNodesAscending-terms_on set_of (node ∷ nodes) up =
     AreNodesAscending-with_node node (set_of node) (terms_on set_of nodes)
     (AreAbove-terms_on set_of node nodes up.0) (AreNodesAscending-terms_on set_of nodes up.1)
 
+-- so a resolvent's nodes ascend
 pub AreNodesAscending-resolvent : (first second : List Term) (on : ℕ) → AreNodesAscending second → AreNodesAscending (resolvent first second on)
 AreNodesAscending-resolvent first second on up =
     AreNodesAscending-terms_on (set_of_both first second on) (nodes_of first second) (AreUp-nodes_of first second up)

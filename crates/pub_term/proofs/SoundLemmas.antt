@@ -5,7 +5,7 @@ use Rattle.std.proofs.lemmas.Bool.{and_from, and_parts, cases_Bool, cases_eq, co
 use Rattle.std.proofs.lemmas.List.Folds.{list_all-append}
 use Rattle.pub_set.specs.Choices.{ChoiceSet, has, intersection, is_among, is_whole, union}
 use Rattle.pub_term.specs.Resolvent.{CanResolve, insert_node, joined, nodes_of, resolvent, unless_whole, with_node}
-use Rattle.pub_term.specs.Term.{AreNodesAscending, IsIncompat, set_at, violates}
+use Rattle.pub_term.specs.Term.{AreNodesAscending, set_at, violates}
 use Rattle.pub_term.specs.declared.term.Term.{Term}
 use Rattle.pub_term.proofs.AboveLemmas.{AreAbove-tail, AreNodesAscending-tail, node_list, set_at-head, set_at-none, set_at-tail}
 use Rattle.pub_term.proofs.ProperLemmas.{has-whole, passes-where}
@@ -13,6 +13,7 @@ use Rattle.pub_term.proofs.ResolventLemmas.{set_of_both}
 
 -- ---- which nodes there are
 
+-- a node that was put is there
 is_among-insert_new : (node : ℕ) (nodes : List ℕ) → is_among (insert_node node nodes) node ≡ true
 is_among-insert_new node [] = or_left (node == node) false (eq-eqb node node refl)
 is_among-insert_new node (other ∷ others) =
@@ -24,6 +25,7 @@ is_among-insert_new node (other ∷ others) =
     (λ same. or_left (other == node) (is_among others node) (eq-eqb other node (sym (eqb-true node other same))))
     (λ _. or_right (other == node) (is_among (insert_node node others) node) (is_among-insert_new node others)))
 
+-- those that were there stay
 is_among-insert_old : (node : ℕ) (nodes : List ℕ) (k : ℕ) → is_among nodes k ≡ true → is_among (insert_node node nodes) k ≡ true
 is_among-insert_old node [] k here = absurd (false≢true here)
 is_among-insert_old node (other ∷ others) k here =
@@ -39,11 +41,13 @@ is_among-insert_old node (other ∷ others) k here =
       | inr behind ↦ or_right (other == k) (is_among (insert_node node others) k) (is_among-insert_old node others k behind)
     ]))
 
+-- the second list's nodes are among those of both
 is_among-second : (first second : List Term) (k : ℕ) → is_among (node_list second) k ≡ true → is_among (nodes_of first second) k ≡ true
 is_among-second [] second k here = here
 is_among-second (term ∷ first) second k here =
     is_among-insert_old term.node (nodes_of first second) k (is_among-second first second k here)
 
+-- and so are the first's
 is_among-first : (first second : List Term) (k : ℕ) → is_among (node_list first) k ≡ true → is_among (nodes_of first second) k ≡ true
 is_among-first [] second k here = absurd (false≢true here)
 is_among-first (term ∷ first) second k here =
@@ -54,6 +58,7 @@ is_among-first (term ∷ first) second k here =
       | inr behind ↦ is_among-insert_old term.node (nodes_of first second) k (is_among-first first second k behind)
     ]
 
+-- a node with a set is among the nodes
 is_among-set_at : (terms : List Term) (k : ℕ) (set : ChoiceSet) → set_at terms k ≡ Some set → is_among (node_list terms) k ≡ true
 is_among-set_at [] k set at = cc
 is_among-set_at (term ∷ terms) k set at =
@@ -70,6 +75,7 @@ is_among-set_at (term ∷ terms) k set at =
 abbrev has_choice : (ℕ → ℕ) → Term → Bool
 has_choice assignment term = has term.choices (assignment term.node)
 
+-- what all terms pass those of each node pass
 list_all-flat_map : (test : Term → Bool) (f : ℕ → List Term) (nodes : List ℕ) (k : ℕ) → list_all test (flat_map f nodes) ≡ true
     → is_among nodes k ≡ true → list_all test (f k) ≡ true
 list_all-flat_map test f [] k all here = absurd (false≢true here)
@@ -80,6 +86,7 @@ list_all-flat_map test f (node ∷ nodes) k all here =
       | inr behind ↦ list_all-flat_map test f nodes k parts.1 behind
     ]
 
+-- terms are violated where each set has its node's choice
 violates-each : (assignment : ℕ → ℕ) (terms : List Term) → AreNodesAscending terms
     → ((node : ℕ) (set : ChoiceSet) → set_at terms node ≡ Some set → has set (assignment node) ≡ true) → violates assignment terms ≡ true
 violates-each assignment [] up each = refl
@@ -114,6 +121,7 @@ has-joined_first assignment node set (Some other) violated =
     let both = passes-where set.size (assignment node) (λ k. has set k && has other k) here in
     (and_parts (has set (assignment node)) (has other (assignment node)) both).0
 
+-- what both say on another node lies within what the second says
 has-joined_second : (assignment : ℕ → ℕ) (node : ℕ) (other : Option ChoiceSet) (set : ChoiceSet)
     → violates assignment (with_node node (joined false other (Some set))) ≡ true → has set (assignment node) ≡ true
 has-joined_second assignment node None set violated = (and_parts (has set (assignment node)) true violated).0
@@ -124,6 +132,7 @@ has-joined_second assignment node (Some other) set violated =
 
 -- ---- the law
 
+-- a set that is there
 some_set : (set : Option ChoiceSet) → IsSome set → (there : ChoiceSet) × (set ≡ Some there)
 some_set None some = absurd (false≢true some)
 some_set (Some set) some = (set, refl)
@@ -132,12 +141,14 @@ some_set (Some set) some = (set, refl)
 abbrev ViolatedAt : (ℕ → ℕ) → List Term → List Term → ℕ → ℕ → Type 0
 ViolatedAt assignment first second on node = violates assignment (with_node node (set_of_both first second on node)) ≡ true
 
+-- where a resolvent is violated, so is what both say on a node of the first
 violated_first : (assignment : ℕ → ℕ) (first second : List Term) (on node : ℕ) (set : ChoiceSet) → violates assignment (resolvent first second on) ≡ true
     → set_at first node ≡ Some set → ViolatedAt assignment first second on node
 violated_first assignment first second on node set violated at =
     list_all-flat_map (has_choice assignment) (λ n. with_node n (set_of_both first second on n)) (nodes_of first second) node violated
     (is_among-first first second node (is_among-set_at first node set at))
 
+-- and on a node of the second
 violated_second : (assignment : ℕ → ℕ) (first second : List Term) (on node : ℕ) (set : ChoiceSet) → violates assignment (resolvent first second on) ≡ true
     → set_at second node ≡ Some set → ViolatedAt assignment first second on node
 violated_second assignment first second on node set violated at =
@@ -161,6 +172,7 @@ first_violated assignment first second on set up violated at here =
           ∙ violated_first assignment first second on node other violated at_node)
     ])
 
+-- a choice on the resolved node in the second's set violates the second
 second_violated : (assignment : ℕ → ℕ) (first second : List Term) (on : ℕ) (set : ChoiceSet) → AreNodesAscending second
     → violates assignment (resolvent first second on) ≡ true → set_at second on ≡ Some set → has set (assignment on) ≡ true
     → violates assignment second ≡ true
@@ -177,10 +189,11 @@ second_violated assignment first second on set up violated at here =
           ∙ violated_second assignment first second on node other violated at_node)
     ])
 
-pub one_violated : (first second : List Term) (on : ℕ) (assignment : ℕ → ℕ) → IsIncompat first → IsIncompat second → CanResolve first second on
+-- so one of the two is violated
+pub one_violated : (first second : List Term) (on : ℕ) (assignment : ℕ → ℕ) → AreNodesAscending first → AreNodesAscending second → CanResolve first second on
     → ((set : ChoiceSet) → set_at first on ≡ Some set → assignment on < set.size) → violates assignment (resolvent first second on) ≡ true
     → (violates assignment first ≡ true) ⊎ (violates assignment second ≡ true)
-one_violated first second on assignment incompat_first incompat_second can below violated =
+one_violated first second on assignment up_first up_second can below violated =
     let a = some_set (set_at first on) can.first_on in
     let b = some_set (set_at second on) can.second_on in
     let joint : set_of_both first second on on ≡ unless_whole (union a.0 b.0)
@@ -190,6 +203,6 @@ one_violated first second on assignment incompat_first incompat_second can below
     (sym (ap (λ set. violates assignment (with_node on set)) joint) ∙ violated_first assignment first second on on a.0 violated a.1) in
     elim (or_cases (has a.0 (assignment on)) (has b.0 (assignment on))
     (passes-where a.0.size (assignment on) (λ k. has a.0 k || has b.0 k) here)) [
-      | inl in_first ↦ inl (first_violated assignment first second on a.0 incompat_first.ascending violated a.1 in_first)
-      | inr in_second ↦ inr (second_violated assignment first second on b.0 incompat_second.ascending violated b.1 in_second)
+      | inl in_first ↦ inl (first_violated assignment first second on a.0 up_first violated a.1 in_first)
+      | inr in_second ↦ inr (second_violated assignment first second on b.0 up_second violated b.1 in_second)
     ]

@@ -27,6 +27,7 @@ record IsAt (terms : List Term) (i : ℕ) (term : Term) : Type 0 where
   proper : AreProper (term ∷ [])
   set : set_at terms term.node ≡ Some term.choices
 
+-- the term at a place, with what follows of it
 is_at : (terms : List Term) (i : ℕ) (term : Term) → IsIncompat terms → i < length terms → term ≡ get_or terms i term → IsAt terms i term
 is_at terms i term incompat within at =
     let open_terms : drop i terms ≡ term ∷ drop (i + 1) terms
@@ -42,6 +43,7 @@ is_at terms i term incompat within at =
 above_less : (low : ℕ) (term : Term) (terms : List Term) → low < term.node → AreNodesAscending (term ∷ terms) → AreAbove low (node_list (term ∷ terms))
 above_less low term terms less up = (less, AreAbove-lower low term.node (node_list terms) (omega arith) (AreAbove-tail term terms up))
 
+-- the sets of two heads on one node have one size
 pub size_of_both : (first second : List Term) (on : ℕ) (terms : List Term) (i j : ℕ) (x y : Term) → IsMerging first second on terms i j
     → i < length first → j < length second → x ≡ get_or first i x → y ≡ get_or second j y → x.node ≡ y.node → x.choices.size ≡ y.choices.size
 size_of_both first second on terms i j x y m within_first within_second at_first at_second same =
@@ -51,6 +53,7 @@ size_of_both first second on terms i j x y m within_first within_second at_first
 
 -- ---- the steps
 
+-- the first's head was put
 pub IsMerging-first : (first second : List Term) (on : ℕ) (terms more : List Term) (i j : ℕ) (x y : Term) → IsMerging first second on terms i j → i < length first → j < length second → x ≡ get_or first i x → y ≡ get_or second j y
     → x.node < y.node → more ≡ terms ++ x ∷ [] → IsMerging first second on more (i + 1) j
 IsMerging-first first second on terms more i j x y m within_first within_second at_first at_second less push =
@@ -71,6 +74,7 @@ IsMerging-first first second on terms more i j x y m within_first within_second 
       proper = AreProper-append terms (x ∷ []) m.proper p.proper;
     })
 
+-- the second's head was put
 pub IsMerging-second : (first second : List Term) (on : ℕ) (terms more : List Term) (i j : ℕ) (x y : Term) → IsMerging first second on terms i j → i < length first → j < length second → x ≡ get_or first i x → y ≡ get_or second j y
     → y.node < x.node → more ≡ terms ++ y ∷ [] → IsMerging first second on more i (j + 1)
 IsMerging-second first second on terms more i j x y m within_first within_second at_first at_second less push =
@@ -91,6 +95,7 @@ IsMerging-second first second on terms more i j x y m within_first within_second
       proper = AreProper-append terms (y ∷ []) m.proper q.proper;
     })
 
+-- what both heads say was put
 pub IsMerging-both : (first second : List Term) (on : ℕ) (terms more : List Term) (i j : ℕ) (x y : Term) → IsMerging first second on terms i j → i < length first → j < length second → x ≡ get_or first i x
     → y ≡ get_or second j y → x.node ≡ y.node → IsSet x.choices
     → more ≡ terms ++ with_node x.node (joined (x.node == on) (Some x.choices) (Some y.choices))
@@ -119,6 +124,7 @@ IsMerging-both first second on terms more i j x y m within_first within_second a
 
 -- ---- the end
 
+-- where one list is at its end the rest of the other is the resolvent
 all_left : (first second : List Term) (on i j : ℕ) → AreNodesAscending (drop i first) → AreNodesAscending (drop j second)
     → (length first ≤ i) ⊎ (length second ≤ j) → drop i first ++ drop j second ≡ resolvent (drop i first) (drop j second) on
 all_left first second on i j up_first up_second (inl past) =
@@ -130,6 +136,7 @@ all_left first second on i j up_first up_second (inr past) =
     ap (λ rest. drop i first ++ rest) none ∙ append-nil (drop i first) ∙ sym (resolvent-nil_second (drop i first) on up_first)
     ∙ ap (λ rest. resolvent (drop i first) rest on) (sym none)
 
+-- so at the end the terms are the resolvent
 pub resolvent-end : (first second : List Term) (on : ℕ) (terms : List Term) (i j : ℕ) → IsMerging first second on terms i j → (length first ≤ i) ⊎ (length second ≤ j) → terms ++ drop i first ++ drop j second ≡ resolvent first second on
 resolvent-end first second on terms i j m past =
     append_assoc terms (drop i first) (drop j second)
@@ -138,6 +145,7 @@ resolvent-end first second on terms i j m past =
     (AreNodesAscending-drop j second m.second_incompat.ascending) past)
     ∙ m.left
 
+-- and an incompatibility
 pub IsIncompat-end : (first second : List Term) (on : ℕ) (terms : List Term) (i j : ℕ) → IsMerging first second on terms i j → (length first ≤ i) ⊎ (length second ≤ j) → IsIncompat (terms ++ drop i first ++ drop j second)
 IsIncompat-end first second on terms i j m past = record {
   ascending = rw (resolvent-end first second on terms i j m past)

@@ -4,3 +4,5 @@ pub mod Term
 pub mod TermLaws
 pub mod Known
 pub mod Resolvent
+pub mod Sized
+pub mod CauseLaws

@@ -1,7 +1,8 @@
 -- The laws of the order of nodes: a node is told by its package and its trait.
-use Rattle.std.specs.Prelude.{◌≡◌, ◌&&◌, ℕ, List, Bool, Option, Some, None, nat_eq, refl}
+use Rattle.std.specs.Str.{bytes_eq}
+use Rattle.std.specs.Prelude.{◌≡◌, ◌&&◌, ℕ, List, Bool, Option, Some, None, refl}
 use Rattle.std.specs.Cmp.{IsEquivalence, IsPartialOrder, IsTotalOrder, and_equiv, both_tied, on_equiv, on_total, po, then_total}
-use Rattle.std.specs.Cmp.Lexicographic.{nat_list_cmp_total, nat_list_eq_equiv, options_equiv, options_total, pointwise, slice_cmp, texts_ties}
+use Rattle.std.specs.Cmp.Lexicographic.{nat_list_cmp_total, nat_list_eq_equiv, options_equiv, options_total, slice_cmp, texts_ties}
 use Rattle.std.specs.Option.{option_cmp, option_eq}
 use Rattle.std.specs.Ordering.{eq_by_cmp, nat_cmp}
 use Rattle.std.proofs.Common.{subst}
@@ -11,7 +12,7 @@ use Rattle.pub_term.specs.declared.node.NodeName.{NodeName}
 -- the same package and the same trait
 abbrev pub node_eq : NodeName → NodeName → Bool
 node_eq first second =
-    option_eq (pointwise nat_eq) (package_of first) (package_of second) && option_eq (pointwise nat_eq) (trait_of first) (trait_of second)
+    option_eq (bytes_eq) (package_of first) (package_of second) && option_eq (bytes_eq) (trait_of first) (trait_of second)
 
 pub node_equiv : IsEquivalence node_eq
 node_equiv = and_equiv (on_equiv package_of (options_equiv nat_list_eq_equiv)) (on_equiv trait_of (options_equiv nat_list_eq_equiv))
@@ -26,7 +27,7 @@ optional-is (Some first) (Some second) = refl
 pub optional_total : IsTotalOrder optional_cmp
 optional_total = subst IsTotalOrder (λ i first second. optional-is first second i) (options_total nat_list_cmp_total)
 
-pub optional_ties : (first second : Option (List ℕ)) → option_eq (pointwise nat_eq) first second ≡ eq_by_cmp optional_cmp first second
+pub optional_ties : (first second : Option (List ℕ)) → option_eq (bytes_eq) first second ≡ eq_by_cmp optional_cmp first second
 optional_ties None None = refl
 optional_ties None (Some second) = refl
 optional_ties (Some first) None = refl

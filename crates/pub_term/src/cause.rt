@@ -1,9 +1,10 @@
 ghost use Rattle.std.specs.Prelude.{◌≡◌, IfOk};
+ghost use Rattle.std.specs.Cmp.{partial_equiv_from_equiv};
+ghost use Rattle.pub_term.specs.CauseLaws.{same_subject, same_subject_equiv};
 
-use crate::copies::{copy_of_identity, copy_of_name, copy_of_names};
 use spm_ident::Identity;
-use spm_trait::{Listed, TraitName};
-use spm_version::{Kind, NoMemory, Release, Requirement, Text, ToolsVersion};
+use spm_trait::TraitName;
+use spm_version::{Duplicate, Items, Kind, NoMemory, Release, Requirement, Text, ToolsVersion};
 use std::alloc::Global;
 
 /// Whose need or trait a fact comes from: the root, where there is no owner, or a package at a version; and the traits that
@@ -11,21 +12,47 @@ use std::alloc::Global;
 #[derive(Debug, Drop)]
 pub struct Subject {
     pub owner: Option<(Identity, Release)>,
-    pub under: Listed<TraitName>,
+    pub under: Items<TraitName>,
 }
 
 impl Subject {
     /// A copy of the subject.
+    ///
+    /// # Errors
+    ///
+    /// `NoMemory` alone.
     pub fn copy(&self, alloc: Global) -> Result<Subject, NoMemory>
         ensures { IfOk result (λ subject. subject ≡ self.now) }
     {
         Ok(Subject {
             owner: copy_of_owner(alloc, &self.owner)?,
-            under: copy_of_names(alloc, &self.under)?,
+            under: self.under.copy(alloc)?,
         })
     }
 }
 
+impl Duplicate for Subject {
+    fn duplicate(&self, alloc: Global) -> Result<Subject, NoMemory> {
+        self.copy(alloc)
+    }
+}
+
+/// The same owner, and the same traits in the same order.
+impl PartialEq for Subject {
+    ghost eq = { same_subject };
+
+    ghost laws = { partial_equiv_from_equiv same_subject_equiv };
+
+    fn eq(&self, other: &Subject) -> bool {
+        self.owner == other.owner && self.under.as_slice() == other.under.as_slice()
+    }
+}
+
+impl Eq for Subject {
+    ghost laws = { same_subject_equiv };
+}
+
+// A copy of a subject's owner.
 fn copy_of_owner(
     alloc: Global,
     owner: &Option<(Identity, Release)>,
@@ -34,15 +61,12 @@ fn copy_of_owner(
 {
     match owner {
         None => Ok(None),
-        Some((identity, release)) => Ok(Some((
-            copy_of_identity(alloc, identity)?,
-            release.copy(alloc)?,
-        ))),
+        Some((identity, release)) => Ok(Some((identity.copy(alloc)?, release.copy(alloc)?))),
     }
 }
 
 /// Why a fact holds.
-#[derive(Debug, Drop)]
+#[derive(Debug, PartialEq, Eq, Drop)]
 pub enum Cause {
     /// The subject needs a package within a requirement.
     Requires(Subject, Identity, Requirement),
@@ -70,24 +94,28 @@ pub enum Cause {
 
 impl Cause {
     /// A copy of the cause.
+    ///
+    /// # Errors
+    ///
+    /// `NoMemory` alone.
     pub fn copy(&self, alloc: Global) -> Result<Cause, NoMemory>
         ensures { IfOk result (λ cause. cause ≡ self.now) }
     {
         match self {
             Cause::Requires(subject, identity, requirement) => Ok(Cause::Requires(
                 subject.copy(alloc)?,
-                copy_of_identity(alloc, identity)?,
+                identity.copy(alloc)?,
                 requirement.copy(alloc)?,
             )),
             Cause::Asks(subject, identity, name) => Ok(Cause::Asks(
                 subject.copy(alloc)?,
-                copy_of_identity(alloc, identity)?,
-                copy_of_name(alloc, name)?,
+                identity.copy(alloc)?,
+                name.copy(alloc)?,
             )),
-            Cause::WordsAsk(name) => Ok(Cause::WordsAsk(copy_of_name(alloc, name)?)),
+            Cause::WordsAsk(name) => Ok(Cause::WordsAsk(name.copy(alloc)?)),
             Cause::Enables(subject, name) => Ok(Cause::Enables(
                 subject.copy(alloc)?,
-                copy_of_name(alloc, name)?,
+                name.copy(alloc)?,
             )),
             Cause::NoTrait(subject) => Ok(Cause::NoTrait(subject.copy(alloc)?)),
             Cause::NoManifest(subject) => Ok(Cause::NoManifest(subject.copy(alloc)?)),
@@ -107,5 +135,11 @@ impl Cause {
             }
             Cause::Given => Ok(Cause::Given),
         }
+    }
+}
+
+impl Duplicate for Cause {
+    fn duplicate(&self, alloc: Global) -> Result<Cause, NoMemory> {
+        self.copy(alloc)
     }
 }

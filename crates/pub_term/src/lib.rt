@@ -14,6 +14,9 @@
 //! incompatibility again: nodes ascend, and no set is empty or whole. By the law an assignment that violates it violates one
 //! of the two.
 //!
+//! Two more laws serve what calls these: [`resolvents_keep_sizes`], and [`what_holds_is_violated`], which ties what unit propagation
+//! asks to the assignments that are left.
+//!
 //! How the proof goes:
 //!
 //! - `resolvent` speaks of all nodes of both lists, and the code merges the two. `proofs/AboveLemmas.antt` shows that the nodes
@@ -28,12 +31,14 @@
 #![tactic(auto)]
 
 mod cause;
-mod copies;
+mod laws;
 mod node;
 mod resolution;
+mod shared;
 mod term;
 
 pub use cause::{Cause, Subject};
+pub use laws::{resolution_is_sound, resolvents_keep_sizes, what_holds_is_violated};
 pub use node::NodeName;
-pub use resolution::{resolution_is_sound, resolve};
+pub use resolution::resolve;
 pub use term::{Incompat, Term};

@@ -4,10 +4,9 @@ ghost use Rattle.std.specs.Option.{option_copied};
 ghost use Rattle.pub_term.specs.Node.{node_cmp, node_text, package_of, trait_of};
 ghost use Rattle.pub_term.specs.NodeLaws.{node_eq, node_equiv, node_po, node_ties, node_total};
 
-use crate::copies::{copy_of_identity, copy_of_name};
 use spm_ident::Identity;
 use spm_trait::TraitName;
-use spm_version::NoMemory;
+use spm_version::{Duplicate, NoMemory};
 use std::alloc::Global;
 use std::cmp::Ordering;
 use std::fmt;
@@ -27,18 +26,20 @@ pub enum NodeName {
 
 impl NodeName {
     /// A copy of the name.
+    ///
+    /// # Errors
+    ///
+    /// `NoMemory` alone.
     pub fn copy(&self, alloc: Global) -> Result<NodeName, NoMemory>
         ensures { IfOk result (λ name. name ≡ self.now) }
     {
         match self {
             NodeName::Root => Ok(NodeName::Root),
-            NodeName::RootTrait(name) => Ok(NodeName::RootTrait(copy_of_name(alloc, name)?)),
-            NodeName::Package(identity) => {
-                Ok(NodeName::Package(copy_of_identity(alloc, identity)?))
-            }
+            NodeName::RootTrait(name) => Ok(NodeName::RootTrait(name.copy(alloc)?)),
+            NodeName::Package(identity) => { Ok(NodeName::Package(identity.copy(alloc)?)) }
             NodeName::PackageTrait(identity, name) => Ok(NodeName::PackageTrait(
-                copy_of_identity(alloc, identity)?,
-                copy_of_name(alloc, name)?,
+                identity.copy(alloc)?,
+                name.copy(alloc)?,
             )),
         }
     }
@@ -61,6 +62,12 @@ impl NodeName {
             NodeName::Root | NodeName::Package(_) => None,
             NodeName::RootTrait(name) | NodeName::PackageTrait(_, name) => Some(name),
         }
+    }
+}
+
+impl Duplicate for NodeName {
+    fn duplicate(&self, alloc: Global) -> Result<NodeName, NoMemory> {
+        self.copy(alloc)
     }
 }
 

@@ -1,8 +1,7 @@
-ghost use Rattle.std.specs.Prelude.{◌≡◌, ◌==◌, ◌<◌, ◌++◌, ◌⊎◌, ℕ, List, true, Some, IfOk, OnOk};
-ghost use Rattle.pub_set.specs.Choices.{ChoiceSet, IsSet};
+ghost use Rattle.std.specs.Prelude.{◌≡◌, ◌==◌, ◌++◌, Some, IfOk, OnOk};
+ghost use Rattle.pub_set.specs.Choices.{IsSet};
 ghost use Rattle.pub_term.specs.Resolvent.{CanResolve, joined, resolvent, with_node};
-ghost use Rattle.pub_term.specs.Term.{IsIncompat, set_at, violates};
-ghost use Rattle.pub_term.specs.declared.term.Term.{Term};
+ghost use Rattle.pub_term.specs.Term.{IsIncompat};
 
 use crate::term::{Incompat, Term};
 use pub_set::Choices;
@@ -24,10 +23,10 @@ fn joined_set(
 {
     prove_eq!(first.size(), second.size());
     if !is_on {
-        let shared = first.intersect(alloc, second).map_err(|_| NoMemory)?;
+        let shared = first.intersect(alloc, second)?;
         return Ok(Some(shared));
     }
-    let either = first.unite(alloc, second).map_err(|_| NoMemory)?;
+    let either = first.unite(alloc, second)?;
     if either.is_whole() {
         Ok(None)
     } else {
@@ -111,12 +110,3 @@ pub fn resolve(
     push_copies(alloc, &mut terms, &second[j..])?;
     Ok(Incompat { terms })
 }
-
-/// A law, with nothing to run: an assignment that violates the resolution of two incompatibilities violates one of them, if
-/// its choice on the node that is resolved is one of the node's.
-pub fn resolution_is_sound()
-    ensures { (first second : List Term) (on : ℕ) (assignment : ℕ → ℕ) → IsIncompat first → IsIncompat second
-        → CanResolve first second on → ((set : ChoiceSet) → set_at first on ≡ Some set → assignment on < set.size)
-        → violates assignment (resolvent first second on) ≡ true
-        → (violates assignment first ≡ true) ⊎ (violates assignment second ≡ true) }
-{}

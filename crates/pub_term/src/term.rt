@@ -3,10 +3,9 @@ ghost use Rattle.std.specs.Cmp.{partial_equiv_from_equiv};
 ghost use Rattle.std.specs.Option.{option_copied};
 ghost use Rattle.pub_set.specs.Choices.{do_meet};
 ghost use Rattle.pub_term.specs.Known.{AreKnown, almost_on, holds, is_held, known_at};
-ghost use Rattle.pub_term.specs.Term.{IsIncompat, set_at};
+ghost use Rattle.pub_term.specs.Term.{set_at};
 ghost use Rattle.pub_term.specs.TermLaws.{same_terms, same_terms_equiv};
 
-use crate::copies::copy_of_set;
 use pub_set::Choices;
 use spm_version::{Duplicate, Items, NoMemory};
 use std::alloc::Global;
@@ -20,12 +19,16 @@ pub struct Term {
 
 impl Term {
     /// A copy of the term.
+    ///
+    /// # Errors
+    ///
+    /// `NoMemory` alone.
     pub fn copy(&self, alloc: Global) -> Result<Term, NoMemory>
         ensures { IfOk result (λ term. term ≡ self.now) }
     {
         Ok(Term {
             node: self.node,
-            choices: copy_of_set(alloc, &self.choices)?,
+            choices: self.choices.copy(alloc)?,
         })
     }
 }
@@ -64,8 +67,7 @@ pub struct Incompat {
 impl Incompat {
     /// Whether each term holds: what is known of its node lies within its set. It takes no memory.
     pub fn holds(&self, known: &[Choices]) -> bool
-        requires incompat { IsIncompat self.now.terms }
-        requires known { AreKnown known.now self.now.terms }
+        requires { AreKnown known.now self.now.terms }
         ensures { result ≡ holds known.now self.now.terms }
     {
         for term in self.terms.as_slice() {
@@ -79,8 +81,7 @@ impl Incompat {
     /// The node of the one term that doesn't hold, if all others do and what is known of the node meets its set. It takes no
     /// memory.
     pub fn almost(&self, known: &[Choices]) -> Option<u32>
-        requires incompat { IsIncompat self.now.terms }
-        requires known { AreKnown known.now self.now.terms }
+        requires { AreKnown known.now self.now.terms }
         ensures { result ≡ almost_on known.now self.now.terms }
     {
         let mut open: Option<&Term> = None;
@@ -114,11 +115,21 @@ impl Incompat {
     }
 
     /// A copy of the incompatibility.
+    ///
+    /// # Errors
+    ///
+    /// `NoMemory` alone.
     pub fn copy(&self, alloc: Global) -> Result<Incompat, NoMemory>
         ensures { IfOk result (λ incompat. incompat ≡ self.now) }
     {
         let terms = self.terms.copy(alloc)?;
         Ok(Incompat { terms })
+    }
+}
+
+impl Duplicate for Incompat {
+    fn duplicate(&self, alloc: Global) -> Result<Incompat, NoMemory> {
+        self.copy(alloc)
     }
 }
 

@@ -4,247 +4,256 @@ ghost use Rattle.spm_json.specs.Field.{field_of};
 ghost use Rattle.spm_json.specs.Sequence.{sole_of};
 ghost use Rattle.spm_json.specs.Shape.{object_of, whole_number_of};
 
-use crate::support::{assert_reading, nested_lists};
+use crate::support::{assert_outcome, assert_text, fault_text, nested_lists, outcome, sides};
 use serde_json::Value;
 use spm_ident::Identity;
 use spm_json::{
     FromJson, FromMember, Object, ReadFault, items, limited_items, limited_list, list, members,
-    read_document, sole, sole_member, text, whole_number,
+    read_document, sole, sole_member, text, whole_number, within,
 };
-use spm_version::{Items, Kind, Release, Text, ToolsVersion};
-use std::alloc::{AllocError, Global};
+use spm_version::{Items, Kind, NoMemory, Release, Text, ToolsVersion};
+use std::alloc::Global;
+use std::process::Abort;
 use std::test::Fail;
 
 fn document(alloc: Global, json: &str) -> Result<Value, ReadFault> {
     read_document(alloc, json.as_bytes())
 }
 
-#[test]
-fn other_bytes_are_not_json(rt: HostRuntime) {
-    for (case, bytes) in [
-        ("a byte that no text has", b"\"\xff\"".as_slice()),
-        ("a character cut short", b"\"\xc3\""),
-        ("nothing", b""),
-        ("an object cut short", b"{"),
-        ("a word cut short", b"nul"),
-        ("a bad escape", b"\"\\x\""),
-        ("a lone surrogate", b"\"\\ud800\""),
-        ("a number beyond all floats", b"1e400"),
-        ("a leading zero", b"01"),
-        ("a comma too many", b"[1,]"),
-        ("two documents", b"1 2"),
-    ] {
-        let found = read_document(rt.alloc(), bytes);
-        assert_reading(&rt, found, "", Some(Kind::NotJson), case);
-    }
+// A character that is cut short, and one that no text has, are asserted below.
+fn texts_that_are_not_json() -> &'static str {
+    r#"
+{
+nul
+"\x"
+"\ud800"
+1e400
+01
+[1,]
+1 2"#
 }
 
 #[test]
-fn documents_have_127_levels_at_most(rt: HostRuntime) -> Result<(), Fail> {
+fn other_bytes_are_not_json(rt: HostRuntime) {
     let alloc = rt.alloc();
-    for (levels, kind) in [(127, None), (128, Some(Kind::NotJson))] {
-        let json = nested_lists(alloc, levels)?;
-        let found = document(alloc, json.as_str());
-        assert_reading(&rt, found, "", kind, json.as_str());
+    for line in texts_that_are_not_json().lines() {
+        assert_outcome(&rt, alloc, document(alloc, line), ": not JSON", line);
     }
+    let found = read_document(alloc, b"\"\xff\"");
+    assert_outcome(&rt, alloc, found, ": not JSON", "a byte that no text has");
+    let found = read_document(alloc, b"\"\xc3\"");
+    assert_outcome(&rt, alloc, found, ": not JSON", "a character cut short");
+}
+
+// Asserts what a document of so many levels comes to.
+fn assert_levels(rt: &impl Abort, alloc: Global, levels: usize, wanted: &str) {
+    let json = nested_lists(alloc, levels).expect(rt, "memory");
+    let found = document(alloc, json.as_str());
+    assert_outcome(rt, alloc, found, wanted, json.as_str());
+}
+
+#[test]
+fn documents_have_127_levels_at_most(rt: HostRuntime) {
+    assert_levels(&rt, rt.alloc(), 127, "ok");
+    assert_levels(&rt, rt.alloc(), 128, ": not JSON");
+}
+
+// Adds what reading comes to, behind what is there.
+fn push_outcome<T: Drop>(
+    line: &mut String,
+    alloc: Global,
+    found: Result<T, ReadFault>,
+) -> Result<(), NoMemory> {
+    let text = outcome(alloc, found)?;
+    if !line.is_empty() {
+        line.push_str("; ")?;
+    }
+    line.push_str(text.as_str())?;
     Ok(())
 }
 
-#[derive(Clone, Copy, PartialEq, Eq)]
-enum Shape {
-    Text,
-    List,
-    Object,
-    WholeNumber,
-    Other,
+// What an item is read as: as a text, a list, an object and a whole number.
+fn shapes_of(alloc: Global, value: &Value) -> Result<String, NoMemory> {
+    let mut line = String::new(alloc);
+    push_outcome(&mut line, alloc, text(alloc, value))?;
+    push_outcome(&mut line, alloc, list(alloc, value))?;
+    push_outcome(&mut line, alloc, Object::of(alloc, value))?;
+    push_outcome(&mut line, alloc, whole_number(alloc, value))?;
+    Ok(line)
 }
 
-impl Shape {
-    // What is wrong with an item of this shape where another is due.
-    fn kind_as(self, due: Shape) -> Option<Kind> {
-        if self == due {
-            None
-        } else {
-            Some(Kind::WrongKind)
-        }
-    }
+fn shapes() -> &'static str {
+    r#"null => : wrong kind; : wrong kind; : wrong kind; : wrong kind
+true => : wrong kind; : wrong kind; : wrong kind; : wrong kind
+"3" => ok; : wrong kind; : wrong kind; : wrong kind
+[3] => : wrong kind; ok; : wrong kind; : wrong kind
+{"3":3} => : wrong kind; : wrong kind; ok; : wrong kind
+3 => : wrong kind; : wrong kind; : wrong kind; ok
+3.0 => : wrong kind; : wrong kind; : wrong kind; : wrong kind
+3e0 => : wrong kind; : wrong kind; : wrong kind; : wrong kind
+-1 => : wrong kind; : wrong kind; : wrong kind; : wrong kind
+18446744073709551615 => : wrong kind; : wrong kind; : wrong kind; ok
+18446744073709551616 => : wrong kind; : wrong kind; : wrong kind; : wrong kind"#
 }
 
 #[test]
 fn items_of_another_shape_are_of_the_wrong_kind(rt: HostRuntime) -> Result<(), Fail> {
     let alloc = rt.alloc();
-    for (json, shape) in [
-        ("null", Shape::Other),
-        ("true", Shape::Other),
-        ("\"3\"", Shape::Text),
-        ("[3]", Shape::List),
-        ("{\"3\":3}", Shape::Object),
-        ("3", Shape::WholeNumber),
-        ("3.0", Shape::Other),
-        ("3e0", Shape::Other),
-        ("-1", Shape::Other),
-        ("18446744073709551615", Shape::WholeNumber),
-        ("18446744073709551616", Shape::Other),
-    ] {
-        let value = document(alloc, json)?;
-        let (found, kind) = (text(alloc, &value), shape.kind_as(Shape::Text));
-        assert_reading(&rt, found, "", kind, json);
-        let (found, kind) = (list(alloc, &value), shape.kind_as(Shape::List));
-        assert_reading(&rt, found, "", kind, json);
-        let (found, kind) = (Object::of(alloc, &value), shape.kind_as(Shape::Object));
-        assert_reading(&rt, found, "", kind, json);
-        let (found, kind) = (
-            whole_number(alloc, &value),
-            shape.kind_as(Shape::WholeNumber),
-        );
-        assert_reading(&rt, found, "", kind, json);
+    for line in shapes().lines() {
+        let (json, wanted) = sides(&rt, line);
+        let found = shapes_of(alloc, &document(alloc, json)?)?;
+        assert_text(&rt, found.as_str(), wanted, json);
     }
     Ok(())
 }
 
-#[test]
-fn whole_numbers_are_read(rt: HostRuntime) -> Result<(), Fail> {
-    let alloc = rt.alloc();
-    for (json, number) in [("0", 0), ("3", 3), ("18446744073709551615", u64::MAX)] {
-        let value = document(alloc, json)?;
-        assert_eq!(rt; whole_number(alloc, &value)?, number);
+// What a list is read as under a limit: its items as numbers, and the list. The length decides before the items are read.
+fn limited(alloc: Global, value: &Value, limit: usize) -> Result<String, NoMemory> {
+    let mut line = String::new(alloc);
+    let numbers: Result<Items<u64>, ReadFault> = limited_items(alloc, value, limit);
+    push_outcome(&mut line, alloc, numbers)?;
+    push_outcome(&mut line, alloc, limited_list(alloc, value, limit))?;
+    Ok(line)
+}
+
+fn assert_limited(rt: &impl Abort, alloc: Global, limit: usize, table: &str) -> Result<(), Fail> {
+    for line in table.lines() {
+        let (json, wanted) = sides(rt, line);
+        let found = limited(alloc, &document(alloc, json)?, limit)?;
+        assert_text(rt, found.as_str(), wanted, json);
     }
     Ok(())
 }
 
-// The length decides before the items are read.
+fn lists_of_two() -> &'static str {
+    "[1,2] => ok; ok
+[1,2,3] => : too many; : too many
+[null,2,3] => : too many; : too many
+{} => : wrong kind; : wrong kind"
+}
+
 #[test]
 fn lists_have_their_limit_at_most(rt: HostRuntime) -> Result<(), Fail> {
-    let alloc = rt.alloc();
-    for (json, limit, kind) in [
-        ("[]", 0, None),
-        ("[1]", 0, Some(Kind::TooMany)),
-        ("[1,2]", 2, None),
-        ("[1,2,3]", 2, Some(Kind::TooMany)),
-        ("[null,2,3]", 2, Some(Kind::TooMany)),
-        ("{}", 2, Some(Kind::WrongKind)),
-    ] {
-        let value = document(alloc, json)?;
-        let found: Result<Items<u64>, ReadFault> = limited_items(alloc, &value, limit);
-        assert_reading(&rt, found, "", kind, json);
-        let found = limited_list(alloc, &value, limit);
-        assert_reading(&rt, found, "", kind, json);
-    }
-    Ok(())
+    let none = "[] => ok; ok
+[1] => : too many; : too many";
+    assert_limited(&rt, rt.alloc(), 0, none)?;
+    assert_limited(&rt, rt.alloc(), 2, lists_of_two())
+}
+
+// What a list of one number is read as, by itself and as the member `a`.
+fn sole_of_both(alloc: Global, value: &Value) -> Result<String, NoMemory> {
+    let mut line = String::new(alloc);
+    let number: Result<u64, ReadFault> = sole(alloc, value);
+    push_outcome(&mut line, alloc, number)?;
+    let number: Result<u64, ReadFault> = sole_member(alloc, "a", value);
+    push_outcome(&mut line, alloc, number)?;
+    Ok(line)
+}
+
+fn soles() -> &'static str {
+    "[3] => ok; ok
+[] => : wrong kind; /a: wrong kind
+[3,4] => : wrong kind; /a: wrong kind
+3 => : wrong kind; /a: wrong kind
+[null] => /0: wrong kind; /a/0: wrong kind"
 }
 
 #[test]
 fn a_sole_item_is_alone(rt: HostRuntime) -> Result<(), Fail> {
     let alloc = rt.alloc();
-    for (json, place, place_in_object, kind) in [
-        ("[3]", "", "", None),
-        ("[]", "", "/a", Some(Kind::WrongKind)),
-        ("[3,4]", "", "/a", Some(Kind::WrongKind)),
-        ("3", "", "/a", Some(Kind::WrongKind)),
-        ("[null]", "/0", "/a/0", Some(Kind::WrongKind)),
-    ] {
-        let value = document(alloc, json)?;
-        let found: Result<u64, ReadFault> = sole(alloc, &value);
-        assert_reading(&rt, found, place, kind, json);
-        let found: Result<u64, ReadFault> = sole_member(alloc, "a", &value);
-        assert_reading(&rt, found, place_in_object, kind, json);
+    for line in soles().lines() {
+        let (json, wanted) = sides(&rt, line);
+        let found = sole_of_both(alloc, &document(alloc, json)?)?;
+        assert_text(&rt, found.as_str(), wanted, json);
     }
     Ok(())
+}
+
+// What the member `a` is read as: as a number that has to be there, one that is needed, and one that is optional.
+fn presence(alloc: Global, object: &Object) -> Result<String, NoMemory> {
+    let mut line = String::new(alloc);
+    let number: Result<u64, ReadFault> = object.field("a");
+    push_outcome(&mut line, alloc, number)?;
+    let number: Result<u64, ReadFault> = object.needed_field("a");
+    push_outcome(&mut line, alloc, number)?;
+    let number: Result<Option<u64>, ReadFault> = object.optional_field("a");
+    push_outcome(&mut line, alloc, number)?;
+    Ok(line)
+}
+
+fn absent() -> &'static str {
+    r#"{} => /a: missing; /a: missing; ok
+{"a":null} => /a: wrong kind; /a: missing; ok
+{"a":"3"} => /a: wrong kind; /a: wrong kind; /a: wrong kind
+{"a":3} => ok; ok; ok"#
 }
 
 #[test]
 fn null_is_absent_where_a_member_is_optional(rt: HostRuntime) -> Result<(), Fail> {
     let alloc = rt.alloc();
-    for (json, required, needed, optional) in [
-        ("{}", Some(Kind::Missing), Some(Kind::Missing), None),
-        (
-            "{\"a\":null}",
-            Some(Kind::WrongKind),
-            Some(Kind::Missing),
-            None,
-        ),
-        (
-            "{\"a\":\"3\"}",
-            Some(Kind::WrongKind),
-            Some(Kind::WrongKind),
-            Some(Kind::WrongKind),
-        ),
-        ("{\"a\":3}", None, None, None),
-    ] {
+    for line in absent().lines() {
+        let (json, wanted) = sides(&rt, line);
         let value = document(alloc, json)?;
-        let object = Object::of(alloc, &value)?;
-        let found: Result<u64, ReadFault> = object.field("a");
-        assert_reading(&rt, found, "/a", required, json);
-        let found: Result<u64, ReadFault> = object.needed_field("a");
-        assert_reading(&rt, found, "/a", needed, json);
-        let found: Result<Option<u64>, ReadFault> = object.optional_field("a");
-        assert_reading(&rt, found, "/a", optional, json);
+        let found = presence(alloc, &Object::of(alloc, &value)?)?;
+        assert_text(&rt, found.as_str(), wanted, json);
     }
     Ok(())
+}
+
+// The optional number that the member `a` is.
+fn number_of(alloc: Global, json: &str) -> Result<Option<u64>, ReadFault> {
+    let value = document(alloc, json)?;
+    Object::of(alloc, &value)?.optional_field("a")
+}
+
+// Asserts which optional number the member `a` is.
+fn assert_number(rt: &impl Abort, alloc: Global, json: &str, wanted: Option<u64>) {
+    let found = number_of(alloc, json).expect(rt, json);
+    assert!(rt; found == wanted, "at {json}");
 }
 
 #[test]
-fn members_are_read(rt: HostRuntime) -> Result<(), Fail> {
+fn members_are_read(rt: HostRuntime) {
     let alloc = rt.alloc();
-    for (json, number) in [
-        ("{}", None),
-        ("{\"a\":null}", None),
-        ("{\"a\":3}", Some(3)),
-        ("{\"a\":3,\"b\":5,\"a\":4}", Some(4)),
-        ("{\"a\":3,\"\\u0061\":4}", Some(4)),
-        ("{\"a\":3,\"a\":null}", None),
-    ] {
-        let value = document(alloc, json)?;
-        let found: Option<u64> = Object::of(alloc, &value)?.optional_field("a")?;
-        assert_eq!(rt; found, number, "at {json}");
-    }
-    Ok(())
+    assert_number(&rt, alloc, "{}", None);
+    assert_number(&rt, alloc, r#"{"a":null}"#, None);
+    assert_number(&rt, alloc, r#"{"a":0}"#, Some(0));
+    assert_number(&rt, alloc, r#"{"a":3}"#, Some(3));
+    assert_number(&rt, alloc, r#"{"a":18446744073709551615}"#, Some(u64::MAX));
+    assert_number(&rt, alloc, r#"{"a":3,"b":5,"a":4}"#, Some(4));
+    assert_number(&rt, alloc, r#"{"a":3,"\u0061":4}"#, Some(4));
+    assert_number(&rt, alloc, r#"{"a":3,"a":null}"#, None);
 }
 
-// The kind that each of four values has as the member `a`.
+// What the member `a` is read as: as an identity, a release, a tools version and a text.
+fn values_of(alloc: Global, object: &Object) -> Result<String, NoMemory> {
+    let mut line = String::new(alloc);
+    let identity: Result<Identity, ReadFault> = object.field("a");
+    push_outcome(&mut line, alloc, identity)?;
+    let release: Result<Release, ReadFault> = object.field("a");
+    push_outcome(&mut line, alloc, release)?;
+    let tools: Result<ToolsVersion, ReadFault> = object.field("a");
+    push_outcome(&mut line, alloc, tools)?;
+    let text: Result<Text, ReadFault> = object.field("a");
+    push_outcome(&mut line, alloc, text)?;
+    Ok(line)
+}
+
+fn values() -> &'static str {
+    r#"{"a":"mona.LinkedList"} => ok; /a: bad version; /a: bad version; ok
+{"a":"1.0.0"} => /a: bad identity; ok; ok; ok
+{"a":"5"} => /a: bad identity; /a: bad version; ok; ok
+{"a":5} => /a: wrong kind; /a: wrong kind; /a: wrong kind; /a: wrong kind"#
+}
+
 #[test]
 fn values_are_read_from_texts(rt: HostRuntime) -> Result<(), Fail> {
     let alloc = rt.alloc();
-    for (json, identity, release, tools, text) in [
-        (
-            "{\"a\":\"mona.LinkedList\"}",
-            None,
-            Some(Kind::BadVersion),
-            Some(Kind::BadVersion),
-            None,
-        ),
-        (
-            "{\"a\":\"1.0.0\"}",
-            Some(Kind::BadIdentity),
-            None,
-            None,
-            None,
-        ),
-        (
-            "{\"a\":\"5\"}",
-            Some(Kind::BadIdentity),
-            Some(Kind::BadVersion),
-            None,
-            None,
-        ),
-        (
-            "{\"a\":5}",
-            Some(Kind::WrongKind),
-            Some(Kind::WrongKind),
-            Some(Kind::WrongKind),
-            Some(Kind::WrongKind),
-        ),
-    ] {
+    for line in values().lines() {
+        let (json, wanted) = sides(&rt, line);
         let value = document(alloc, json)?;
-        let object = Object::of(alloc, &value)?;
-        let found: Result<Identity, ReadFault> = object.field("a");
-        assert_reading(&rt, found, "/a", identity, json);
-        let found: Result<Release, ReadFault> = object.field("a");
-        assert_reading(&rt, found, "/a", release, json);
-        let found: Result<ToolsVersion, ReadFault> = object.field("a");
-        assert_reading(&rt, found, "/a", tools, json);
-        let found: Result<Text, ReadFault> = object.field("a");
-        assert_reading(&rt, found, "/a", text, json);
+        let found = values_of(alloc, &Object::of(alloc, &value)?)?;
+        assert_text(&rt, found.as_str(), wanted, json);
     }
     Ok(())
 }
@@ -266,32 +275,31 @@ impl FromJson for Row {
 }
 
 // The rows of the list that the member `a` is.
-fn rows(alloc: Global, value: &Value) -> Result<Items<Row>, ReadFault> {
-    match Object::of(alloc, value)?.get("a") {
-        Some(list) => match items(alloc, list) {
-            Ok(rows) => Ok(rows),
-            Err(fault) => Err(fault.under_key(alloc, "a")),
-        },
+fn rows(alloc: Global, json: &str) -> Result<Items<Row>, ReadFault> {
+    let value = document(alloc, json)?;
+    match Object::of(alloc, &value)?.get("a") {
+        Some(list) => within(alloc, "a", items(alloc, list)),
         None => Err(ReadFault::here(alloc, Kind::Missing)),
     }
 }
 
+fn paths() -> &'static str {
+    r#"{"a":[{"b":3}]} => ok
+{"a":[{"b":"3"}]} => /a/0/b: wrong kind
+{"a":[{"b":3},{}]} => /a/1/b: missing
+{"a":[{"b":3},3]} => /a/1: wrong kind
+{"a":[{},3]} => /a/0/b: missing
+{"a":{}} => /a: wrong kind
+[] => : wrong kind"#
+}
+
 #[test]
-fn faults_have_their_path(rt: HostRuntime) -> Result<(), Fail> {
+fn faults_have_their_path(rt: HostRuntime) {
     let alloc = rt.alloc();
-    for (json, place, kind) in [
-        ("{\"a\":[{\"b\":3}]}", "", None),
-        ("{\"a\":[{\"b\":\"3\"}]}", "/a/0/b", Some(Kind::WrongKind)),
-        ("{\"a\":[{\"b\":3},{}]}", "/a/1/b", Some(Kind::Missing)),
-        ("{\"a\":[{\"b\":3},3]}", "/a/1", Some(Kind::WrongKind)),
-        ("{\"a\":[{},3]}", "/a/0/b", Some(Kind::Missing)),
-        ("{\"a\":{}}", "/a", Some(Kind::WrongKind)),
-        ("[]", "", Some(Kind::WrongKind)),
-    ] {
-        let value = document(alloc, json)?;
-        assert_reading(&rt, rows(alloc, &value), place, kind, json);
+    for line in paths().lines() {
+        let (json, wanted) = sides(&rt, line);
+        assert_outcome(&rt, alloc, rows(alloc, json), wanted, json);
     }
-    Ok(())
 }
 
 // `KEY:[NUMBER]`
@@ -316,61 +324,57 @@ impl FromMember for Entry {
     }
 }
 
-// The members in their order, as in `a=3 b=4 `.
-fn listed(alloc: Global, entries: &[Entry]) -> Result<String, AllocError> {
-    let mut listed = String::new(alloc);
-    for entry in entries {
-        let Entry { key, number } = entry;
-        write!(listed, "{key}={number} ")?;
+// The members in their order, as in `{a=3 b=4 }`, or their first fault.
+fn listed(alloc: Global, json: &str) -> Result<String, NoMemory> {
+    let entries: Items<Entry> = match entries(alloc, json) {
+        Ok(entries) => entries,
+        Err(fault) => return fault_text(alloc, &fault),
+    };
+    let mut listed = String::from_str(alloc, "{")?;
+    for entry in entries.as_slice() {
+        write!(listed, "{}={} ", entry.key, entry.number)?;
     }
+    listed.push('}')?;
     Ok(listed)
 }
 
-#[test]
-fn members_come_in_byte_order(rt: HostRuntime) -> Result<(), Fail> {
-    let alloc = rt.alloc();
-    for (json, wanted) in [
-        ("{}", ""),
-        (
-            "{\"b\":[1],\"é\":[2],\"a\":[3],\"\":[4],\"a.b\":[5],\"B\":[6]}",
-            "=4 B=6 a=3 a.b=5 b=1 é=2 ",
-        ),
-        (
-            "{\"b\":[1],\"a\":[2],\"b\":[3],\"\\u0061\":[4]}",
-            "a=4 b=3 ",
-        ),
-    ] {
-        let value = document(alloc, json)?;
-        let entries: Items<Entry> = members(alloc, &value)?;
-        let found = listed(alloc, entries.as_slice())?;
-        assert_eq!(rt; found.as_str(), wanted, "at {json}");
-    }
-    Ok(())
+fn entries(alloc: Global, json: &str) -> Result<Items<Entry>, ReadFault> {
+    let value = document(alloc, json)?;
+    members(alloc, &value)
+}
+
+// A fault under a foreign key stands at the object.
+fn listings() -> &'static str {
+    r#"{} => {}
+{"b":[1],"é":[2],"a":[3],"":[4],"a.b":[5],"B":[6]} => {=4 B=6 a=3 a.b=5 b=1 é=2 }
+{"b":[1],"a":[2],"b":[3],"\u0061":[4]} => {a=4 b=3 }
+{"a":[3],"b":[4]} => {a=3 b=4 }
+{"a":[3],"b":[]} => : wrong kind
+{"a":[3],"b":["4"]} => : wrong kind
+[] => : wrong kind"#
 }
 
 #[test]
-fn faults_under_foreign_keys_stand_at_the_object(rt: HostRuntime) -> Result<(), Fail> {
-    let alloc = rt.alloc();
-    for (json, kind) in [
-        ("{\"a\":[3],\"b\":[4]}", None),
-        ("{\"a\":[3],\"b\":[]}", Some(Kind::WrongKind)),
-        ("{\"a\":[3],\"b\":[\"4\"]}", Some(Kind::WrongKind)),
-        ("[]", Some(Kind::WrongKind)),
-    ] {
-        let value = document(alloc, json)?;
-        let found: Result<Items<Entry>, ReadFault> = members(alloc, &value);
-        assert_reading(&rt, found, "", kind, json);
+fn members_come_in_byte_order(rt: HostRuntime) {
+    for line in listings().lines() {
+        let (json, wanted) = sides(&rt, line);
+        let found = listed(rt.alloc(), json).expect(&rt, "memory");
+        assert_text(&rt, found.as_str(), wanted, json);
     }
-    Ok(())
+}
+
+// How a fault prints that was moved, and want of memory.
+fn printed(alloc: Global) -> Result<String, NoMemory> {
+    let fault = ReadFault::here(alloc, Kind::TooMany)
+        .under_index(alloc, 10)
+        .under_key(alloc, "a");
+    let memory = ReadFault::Memory;
+    format!(in alloc; "{fault}, {memory}")
 }
 
 #[test]
-fn faults_are_printed(rt: HostRuntime) -> Result<(), Fail> {
-    let alloc = rt.alloc();
-    let fault = ReadFault::here(alloc, Kind::TooMany).under_index(alloc, 10);
-    let printed = fault.under_key(alloc, "a").to_string(alloc)?;
-    assert_eq!(rt; printed.as_str(), "unreadable at /a/10: too many");
-    let printed = ReadFault::Memory.to_string(alloc)?;
-    assert_eq!(rt; printed.as_str(), "no memory");
-    Ok(())
+fn faults_are_printed(rt: HostRuntime) {
+    let found = printed(rt.alloc()).expect(&rt, "memory");
+    let wanted = "unreadable at /a/10: too many, no memory";
+    assert_text(&rt, found.as_str(), wanted, "both");
 }

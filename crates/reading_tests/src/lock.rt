@@ -1,30 +1,20 @@
 ghost use Rattle.std.specs.Prelude.{◌<◌};
 
-use crate::support::assert_reading;
+use crate::support::{assert_outcome, assert_text, sides};
 use spm_digest::{Summer, hex_of, read_hex, sum};
-use spm_ident::Identity;
 use spm_resolved::{Resolved, ResolvedFault, write};
-use spm_version::{Bytes, Kind, Release};
+use spm_version::Bytes;
 use std::alloc::{AllocError, Global};
 use std::process::Abort;
 use std::test::Fail;
 
 // The SHA-256 of nothing, and NIST's examples (FIPS 180-2, appendix B): one block, and a message that needs a
 // second block for its length.
-const SUMS: [(&str, &str); 3] = [
-    (
-        "",
-        "e3b0c44298fc1c149afbf4c8996fb92427ae41e4649b934ca495991b7852b855",
-    ),
-    (
-        "abc",
-        "ba7816bf8f01cfea414140de5dae2223b00361a396177a9cb410ff61f20015ad",
-    ),
-    (
-        "abcdbcdecdefdefgefghfghighijhijkijkljklmklmnlmnomnopnopq",
-        "248d6a61d20638b8e5c026930c3e6039a33ce45964ff2167f6ecedd419db06c1",
-    ),
-];
+fn sums() -> &'static str {
+    " => e3b0c44298fc1c149afbf4c8996fb92427ae41e4649b934ca495991b7852b855
+abc => ba7816bf8f01cfea414140de5dae2223b00361a396177a9cb410ff61f20015ad
+abcdbcdecdefdefgefghfghighijhijkijkljklmklmnlmnomnopnopq => 248d6a61d20638b8e5c026930c3e6039a33ce45964ff2167f6ecedd419db06c1"
+}
 
 // The sum of the message, fed in pieces of this many bytes.
 fn sum_in_pieces(message: &[u8], size: usize) -> [u8; 32]
@@ -37,55 +27,51 @@ fn sum_in_pieces(message: &[u8], size: usize) -> [u8; 32]
     summer.finish()
 }
 
-#[test]
-fn sums_are_those_of_the_standard(rt: HostRuntime) -> Result<(), Fail> {
-    for (message, digits) in SUMS {
-        let bytes = message.as_bytes();
-        let found = sum(bytes);
-        let written = hex_of(rt.alloc(), &found)?;
-        assert_eq!(rt; written.as_str(), digits, "at {message:?}");
-        assert_eq!(rt; read_hex(digits), Some(found), "at {message:?}");
-        assert_eq!(rt; sum_in_pieces(bytes, 1), found, "at {message:?}");
-        assert_eq!(rt; sum_in_pieces(bytes, 2), found, "at {message:?}");
-        assert_eq!(rt; sum_in_pieces(bytes, 7), found, "at {message:?}");
-    }
-    Ok(())
+// Asserts that digits write the sum of a message, whole and in pieces.
+fn assert_sum(rt: &impl Abort, alloc: Global, message: &str, digits: &str) {
+    let bytes = message.as_bytes();
+    let found = sum(bytes);
+    let written = hex_of(alloc, &found).expect(rt, "memory");
+    assert_text(rt, written.as_str(), digits, message);
+    let read = read_hex(digits).expect(rt, digits);
+    let is_same = read == found
+        && sum_in_pieces(bytes, 1) == found
+        && sum_in_pieces(bytes, 2) == found
+        && sum_in_pieces(bytes, 7) == found;
+    assert!(rt; is_same);
 }
 
 #[test]
-fn sums_are_64_digits(rt: HostRuntime) -> Result<(), Fail> {
+fn sums_are_those_of_the_standard(rt: HostRuntime) {
+    for line in sums().lines() {
+        let (message, digits) = sides(&rt, line);
+        assert_sum(&rt, rt.alloc(), message, digits);
+    }
+}
+
+// Asserts which bytes so many of a digit write, each the same, if any.
+fn assert_digits(rt: &impl Abort, alloc: Global, digit: &str, count: usize, wanted: Option<u8>) {
+    let digits = digit.repeat(alloc, count).expect(rt, "memory");
+    let sum = wanted.map(|byte| [byte; 32]);
+    let is_so = read_hex(digits.as_str()) == sum;
+    assert!(rt; is_so);
+}
+
+#[test]
+fn sums_are_64_digits(rt: HostRuntime) {
     let alloc = rt.alloc();
-    for (digit, count, wanted) in [
-        ("a", 64, Some([0xaa; 32])),
-        ("B", 64, Some([0xbb; 32])),
-        ("0", 0, None),
-        ("0", 63, None),
-        ("0", 65, None),
-        ("0", 66, None),
-        ("g", 64, None),
-        ("é", 32, None),
-    ] {
-        let digits = digit.repeat(alloc, count)?;
-        assert_eq!(rt; read_hex(digits.as_str()), wanted, "at {digits}");
-    }
-    Ok(())
+    assert_digits(&rt, alloc, "a", 64, Some(0xaa));
+    assert_digits(&rt, alloc, "B", 64, Some(0xbb));
+    assert_digits(&rt, alloc, "0", 0, None);
+    assert_digits(&rt, alloc, "0", 63, None);
+    assert_digits(&rt, alloc, "0", 65, None);
+    assert_digits(&rt, alloc, "0", 66, None);
+    assert_digits(&rt, alloc, "g", 64, None);
+    assert_digits(&rt, alloc, "é", 32, None);
 }
 
-// The pins that these texts are.
-fn pins_of(alloc: Global, pins: &[(&str, &str)]) -> Result<Vec<(Identity, Release)>, Fail> {
-    let mut read = Vec::new(alloc);
-    for (identity, release) in pins {
-        let identity = Identity::parse(alloc, identity)?;
-        let release = Release::parse(alloc, release)?;
-        read.push((identity, release))?;
-    }
-    Ok(read)
-}
-
-// The file for these pins, and for a manifest of no bytes.
-fn written(alloc: Global, pins: &[(&str, &str)]) -> Result<Bytes, Fail> {
-    let read = pins_of(alloc, pins)?;
-    Ok(write(alloc, &sum(b""), read.as_slice())?)
+fn read(alloc: Global, json: &str) -> Result<Resolved, ResolvedFault> {
+    Resolved::read(alloc, json.as_bytes())
 }
 
 const NO_PINS: &str = r#"{
@@ -121,218 +107,106 @@ const TWO_PINS: &str = r#"{
 }
 "#;
 
+// The two pins in one line.
+const TWO_IN_ONE_LINE: &str =
+    r#"{"version":3,"pins":[{"state":{"version":"1.1.0"},"identity":"mona.LinkedList","kind":"registry","location":"x"},{"identity":"swift.numbers","kind":"registry","location":"","state":{"version":"3.1.0-rc.1+build.7"}}]}"#;
+
+// The file for the pins of a copy of this one, and for a manifest of no bytes.
+fn written_again(alloc: Global, json: &str) -> Result<Bytes, ResolvedFault> {
+    let copy = read(alloc, json)?.copy(alloc)?;
+    Ok(write(alloc, &sum(b""), copy.pins.as_slice())?)
+}
+
+// Asserts that the pins of a file are written so.
+fn assert_written(rt: &impl Abort, alloc: Global, json: &str, wanted: &str) {
+    let found = written_again(alloc, json).expect(rt, json);
+    let is_so = found.as_slice() == wanted.as_bytes();
+    assert!(rt; is_so);
+}
+
 #[test]
-fn pins_are_written_in_the_layout_of_swiftpm(rt: HostRuntime) -> Result<(), Fail> {
-    let two = [
-        ("mona.LinkedList", "1.1.0"),
-        ("swift.numbers", "3.1.0-rc.1+build.7"),
-    ];
-    for (pins, text) in [([].as_slice(), NO_PINS), (two.as_slice(), TWO_PINS)] {
-        let found = written(rt.alloc(), pins)?;
-        assert_eq!(rt; found.as_slice(), text.as_bytes());
-    }
+fn pins_are_written_in_the_layout_of_swiftpm(rt: HostRuntime) {
+    let alloc = rt.alloc();
+    assert_written(&rt, alloc, r#"{"pins":[],"version":3}"#, NO_PINS);
+    assert_written(&rt, alloc, TWO_IN_ONE_LINE, TWO_PINS);
+}
+
+#[test]
+fn what_is_written_is_read_back(rt: HostRuntime) {
+    let alloc = rt.alloc();
+    assert_written(&rt, alloc, NO_PINS, NO_PINS);
+    assert_written(&rt, alloc, TWO_PINS, TWO_PINS);
+}
+
+#[test]
+fn origins_are_read(rt: HostRuntime) -> Result<(), Fail> {
+    let found = read(rt.alloc(), NO_PINS)?;
+    let origin = found.origin.as_ref().ok_or("an origin")?;
+    let wanted = "e3b0c44298fc1c149afbf4c8996fb92427ae41e4649b934ca495991b7852b855";
+    assert_text(&rt, origin.as_str(), wanted, "an origin");
     Ok(())
 }
 
-fn read(alloc: Global, json: &str) -> Result<Resolved, ResolvedFault> {
-    Resolved::read(alloc, json.as_bytes())
-}
-
 // Lock files with the place and the kind of their first fault.
-const FILES: [(&str, &str, Option<Kind>); 24] = [
-    (r#"{"pins":[],"version":3}"#, "", None),
-    (r#"{"originHash":null,"pins":[],"version":3}"#, "", None),
-    (
-        r#"{"originHash":"x","pins":[],"version":3,"other":4}"#,
-        "",
-        None,
-    ),
-    ("", "/", Some(Kind::NotJson)),
-    ("{", "/", Some(Kind::NotJson)),
-    ("[]", "/", Some(Kind::WrongKind)),
-    ("3", "/", Some(Kind::WrongKind)),
-    (r#"{"pins":[]}"#, "/version", Some(Kind::Missing)),
-    (
-        r#"{"pins":[],"version":null}"#,
-        "/version",
-        Some(Kind::WrongKind),
-    ),
-    (
-        r#"{"pins":[],"version":"3"}"#,
-        "/version",
-        Some(Kind::WrongKind),
-    ),
-    (
-        r#"{"pins":[],"version":4}"#,
-        "/version",
-        Some(Kind::BadVersion),
-    ),
-    (
-        r#"{"pins":[],"version":2}"#,
-        "/version",
-        Some(Kind::BadVersion),
-    ),
-    (
-        r#"{"pins":[],"version":3.0}"#,
-        "/version",
-        Some(Kind::BadVersion),
-    ),
-    (
-        r#"{"pins":[],"version":3e0}"#,
-        "/version",
-        Some(Kind::BadVersion),
-    ),
-    (
-        r#"{"pins":[],"version":-3}"#,
-        "/version",
-        Some(Kind::BadVersion),
-    ),
-    (
-        r#"{"originHash":3,"version":4}"#,
-        "/version",
-        Some(Kind::BadVersion),
-    ),
-    (
-        r#"{"originHash":3,"pins":[],"version":3}"#,
-        "/originHash",
-        Some(Kind::WrongKind),
-    ),
-    (
-        r#"{"originHash":3,"version":3}"#,
-        "/originHash",
-        Some(Kind::WrongKind),
-    ),
-    (r#"{"version":3}"#, "/pins", Some(Kind::Missing)),
-    (
-        r#"{"pins":null,"version":3}"#,
-        "/pins",
-        Some(Kind::WrongKind),
-    ),
-    (r#"{"pins":{},"version":3}"#, "/pins", Some(Kind::WrongKind)),
-    (
-        r#"{"pins":[3],"version":3}"#,
-        "/pins/0",
-        Some(Kind::WrongKind),
-    ),
-    (
-        r#"{"pins":[{"identity":"mona","kind":"registry","location":"","state":{"version":"1.0.0"}}],"version":3}"#,
-        "/pins/0/identity",
-        Some(Kind::BadIdentity),
-    ),
-    (
-        r#"{"pins":[{"identity":"mona.a","kind":"registry","location":"","state":{"version":"1.0"}}],"version":3}"#,
-        "/pins/0/state/version",
-        Some(Kind::BadVersion),
-    ),
-];
+fn files() -> &'static str {
+    r#"{"pins":[],"version":3} => ok
+{"originHash":null,"pins":[],"version":3} => ok
+{"originHash":"x","pins":[],"version":3,"other":4} => ok
+ => /: not JSON
+{ => /: not JSON
+[] => /: wrong kind
+3 => /: wrong kind
+{"pins":[]} => /version: missing
+{"pins":[],"version":null} => /version: wrong kind
+{"pins":[],"version":"3"} => /version: wrong kind
+{"pins":[],"version":4} => /version: bad version
+{"pins":[],"version":2} => /version: bad version
+{"pins":[],"version":3.0} => /version: bad version
+{"pins":[],"version":3e0} => /version: bad version
+{"pins":[],"version":-3} => /version: bad version
+{"originHash":3,"version":4} => /version: bad version
+{"originHash":3,"pins":[],"version":3} => /originHash: wrong kind
+{"originHash":3,"version":3} => /originHash: wrong kind
+{"version":3} => /pins: missing
+{"pins":null,"version":3} => /pins: wrong kind
+{"pins":{},"version":3} => /pins: wrong kind
+{"pins":[3],"version":3} => /pins/0: wrong kind
+{"pins":[{"identity":"mona","kind":"registry","location":"","state":{"version":"1.0.0"}}],"version":3} => /pins/0/identity: bad identity
+{"pins":[{"identity":"mona.a","kind":"registry","location":"","state":{"version":"1.0"}}],"version":3} => /pins/0/state/version: bad version"#
+}
 
 #[test]
 fn the_first_fault_of_a_lock_file_is_told(rt: HostRuntime) {
-    for (json, place, kind) in FILES {
-        let found = read(rt.alloc(), json);
-        assert_reading(&rt, found, place, kind, json);
+    let alloc = rt.alloc();
+    for line in files().lines() {
+        let (json, wanted) = sides(&rt, line);
+        assert_outcome(&rt, alloc, read(alloc, json), wanted, json);
     }
 }
 
-// A pin of the registry before another pin, with the place and the kind of their first fault.
-const PINS: [(&str, &str, Option<Kind>); 20] = [
-    (
-        r#"{"identity":"mona.b","kind":"registry","location":"","state":{"version":"1.0.0"}}"#,
-        "",
-        None,
-    ),
-    (
-        r#"{"identity":"mona.a","kind":"registry","location":"","state":{"version":"1.0.0"}}"#,
-        "/pins/1/identity",
-        Some(Kind::Doubled),
-    ),
-    (
-        r#"{"identity":"Mona.A","kind":"registry","location":"","state":{"version":"1.0"}}"#,
-        "/pins/1/identity",
-        Some(Kind::Doubled),
-    ),
-    (
-        r#"{"identity":"mona","kind":"registry","location":"","state":{"version":"1.0"}}"#,
-        "/pins/1/identity",
-        Some(Kind::BadIdentity),
-    ),
-    (
-        r#"{"identity":null,"kind":"registry","location":"","state":{"version":"1.0.0"}}"#,
-        "/pins/1/identity",
-        Some(Kind::WrongKind),
-    ),
-    (
-        r#"{"kind":"registry","location":"","state":{"version":"1.0.0"}}"#,
-        "/pins/1/identity",
-        Some(Kind::Missing),
-    ),
-    (
-        r#"{"identity":"mona","location":"","state":{"version":"1.0.0"}}"#,
-        "/pins/1/kind",
-        Some(Kind::Missing),
-    ),
-    (
-        r#"{"identity":"mona","kind":[],"state":{"version":"1.0.0"}}"#,
-        "/pins/1/kind",
-        Some(Kind::WrongKind),
-    ),
-    (
-        r#"{"identity":"mona","kind":"registry","state":{"version":"1.0.0"}}"#,
-        "/pins/1/location",
-        Some(Kind::Missing),
-    ),
-    (
-        r#"{"identity":"mona","kind":"registry","location":3}"#,
-        "/pins/1/location",
-        Some(Kind::WrongKind),
-    ),
-    (
-        r#"{"identity":"mona","kind":"registry","location":""}"#,
-        "/pins/1/state",
-        Some(Kind::Missing),
-    ),
-    (
-        r#"{"identity":"mona","kind":"registry","location":"","state":[]}"#,
-        "/pins/1/state",
-        Some(Kind::WrongKind),
-    ),
-    (
-        r#"{"identity":"mona.b","kind":"registry","location":"","state":{}}"#,
-        "/pins/1/state/version",
-        Some(Kind::Missing),
-    ),
-    (
-        r#"{"identity":"mona.b","kind":"registry","location":"","state":{"version":1}}"#,
-        "/pins/1/state/version",
-        Some(Kind::WrongKind),
-    ),
-    (
-        r#"{"identity":"mona.b","kind":"registry","location":"","state":{"version":"1.0"}}"#,
-        "/pins/1/state/version",
-        Some(Kind::BadVersion),
-    ),
-    (
-        r#"{"identity":"mona.a","kind":"remoteSourceControl","location":"https://a/a","state":{"revision":"x"}}"#,
-        "",
-        None,
-    ),
-    (
-        r#"{"identity":"mona","kind":"","location":"","state":{"version":3}}"#,
-        "",
-        None,
-    ),
-    (
-        r#"{"identity":"mona","kind":"remoteSourceControl","location":""}"#,
-        "/pins/1/state",
-        Some(Kind::Missing),
-    ),
-    (
-        r#"{"identity":"mona","kind":"remoteSourceControl","location":"","state":null}"#,
-        "/pins/1/state",
-        Some(Kind::WrongKind),
-    ),
-    ("[]", "/pins/1", Some(Kind::WrongKind)),
-];
+// Pins behind one of the registry, with the place and the kind of their first fault.
+fn pins() -> &'static str {
+    r#"{"identity":"mona.b","kind":"registry","location":"","state":{"version":"1.0.0"}} => ok
+{"identity":"mona.a","kind":"registry","location":"","state":{"version":"1.0.0"}} => /pins/1/identity: doubled
+{"identity":"Mona.A","kind":"registry","location":"","state":{"version":"1.0"}} => /pins/1/identity: doubled
+{"identity":"mona","kind":"registry","location":"","state":{"version":"1.0"}} => /pins/1/identity: bad identity
+{"identity":null,"kind":"registry","location":"","state":{"version":"1.0.0"}} => /pins/1/identity: wrong kind
+{"kind":"registry","location":"","state":{"version":"1.0.0"}} => /pins/1/identity: missing
+{"identity":"mona","location":"","state":{"version":"1.0.0"}} => /pins/1/kind: missing
+{"identity":"mona","kind":[],"state":{"version":"1.0.0"}} => /pins/1/kind: wrong kind
+{"identity":"mona","kind":"registry","state":{"version":"1.0.0"}} => /pins/1/location: missing
+{"identity":"mona","kind":"registry","location":3} => /pins/1/location: wrong kind
+{"identity":"mona","kind":"registry","location":""} => /pins/1/state: missing
+{"identity":"mona","kind":"registry","location":"","state":[]} => /pins/1/state: wrong kind
+{"identity":"mona.b","kind":"registry","location":"","state":{}} => /pins/1/state/version: missing
+{"identity":"mona.b","kind":"registry","location":"","state":{"version":1}} => /pins/1/state/version: wrong kind
+{"identity":"mona.b","kind":"registry","location":"","state":{"version":"1.0"}} => /pins/1/state/version: bad version
+{"identity":"mona.a","kind":"remoteSourceControl","location":"https://a/a","state":{"revision":"x"}} => ok
+{"identity":"mona","kind":"","location":"","state":{"version":3}} => ok
+{"identity":"mona","kind":"remoteSourceControl","location":""} => /pins/1/state: missing
+{"identity":"mona","kind":"remoteSourceControl","location":"","state":null} => /pins/1/state: wrong kind
+[] => /pins/1: wrong kind"#
+}
 
 // A lock file with a pin of the registry before these.
 fn lock_with(alloc: Global, pins: &str) -> Result<String, AllocError> {
@@ -341,13 +215,18 @@ fn lock_with(alloc: Global, pins: &str) -> Result<String, AllocError> {
     )
 }
 
+// Asserts what reading a lock file with this pin behind one of the registry comes to.
+fn assert_pin(rt: &impl Abort, alloc: Global, pin: &str, wanted: &str) {
+    let json = lock_with(alloc, pin).expect(rt, "memory");
+    let found = read(alloc, json.as_str());
+    assert_outcome(rt, alloc, found, wanted, pin);
+}
+
 #[test]
 fn the_first_fault_of_a_pin_is_told(rt: HostRuntime) {
-    let alloc = rt.alloc();
-    for (pin, place, kind) in PINS {
-        let json = lock_with(alloc, pin).expect(&rt, "memory");
-        let found = read(alloc, json.as_str());
-        assert_reading(&rt, found, place, kind, pin);
+    for line in pins().lines() {
+        let (pin, wanted) = sides(&rt, line);
+        assert_pin(&rt, rt.alloc(), pin, wanted);
     }
 }
 
@@ -363,43 +242,14 @@ fn pins_of_other_kinds_are_read_over(rt: HostRuntime) {
     assert_eq!(rt; found.pins.as_slice().len(), 1);
 }
 
-// Asserts that no prefix of the bytes is read.
-fn assert_no_prefix_is_read(rt: &impl Abort, alloc: Global, bytes: &[u8]) {
-    for end in 0..bytes.len() {
-        let found = Resolved::read(alloc, &bytes[..end]);
-        assert_reading(rt, found, "/", Some(Kind::NotJson), "a prefix");
-    }
-}
-
 #[test]
 fn a_lock_file_cut_short_is_not_read(rt: HostRuntime) {
-    assert_no_prefix_is_read(&rt, rt.alloc(), TWO_PINS.trim_end().as_bytes());
-}
-
-// Asserts that a lock file says this.
-fn assert_says(rt: &impl Abort, found: &Resolved, origin: &str, pins: &[(Identity, Release)]) {
-    let found_origin = found.origin.as_ref().map(|text| text.as_str());
-    assert_eq!(rt; found_origin, Some(origin));
-    assert_eq!(rt; found.pins.as_slice(), pins);
-}
-
-#[test]
-fn what_is_written_is_read_back(rt: HostRuntime) -> Result<(), Fail> {
     let alloc = rt.alloc();
-    let origin = hex_of(alloc, &sum(b""))?;
-    let two = [
-        ("mona.LinkedList", "1.1.0"),
-        ("swift.numbers", "3.1.0-rc.1+build.7"),
-    ];
-    for pins in [[].as_slice(), two.as_slice()] {
-        let pins = pins_of(alloc, pins)?;
-        let bytes = write(alloc, &sum(b""), pins.as_slice())?;
-        let found = Resolved::read(alloc, bytes.as_slice())?;
-        assert_says(&rt, &found, origin.as_str(), pins.as_slice());
-        let copy = found.copy(alloc)?;
-        assert_says(&rt, &copy, origin.as_str(), pins.as_slice());
+    let bytes = TWO_PINS.trim_end().as_bytes();
+    for end in 0..bytes.len() {
+        let found = Resolved::read(alloc, &bytes[..end]);
+        assert_outcome(&rt, alloc, found, "/: not JSON", "a prefix");
     }
-    Ok(())
 }
 
 // That many pins, each with a comma behind it.
@@ -422,17 +272,25 @@ fn lock_ending(alloc: Global, pins: &str, last: &str) -> Result<String, AllocErr
     lock_with(alloc, pins.as_str())
 }
 
+// Asserts what reading a lock file with a pin, these pins and a last one comes to.
+fn assert_ending(rt: &impl Abort, alloc: Global, many: &str, last: &str, wanted: &str) {
+    let json = lock_ending(alloc, many, last).expect(rt, "memory");
+    let found = read(alloc, json.as_str());
+    assert_outcome(rt, alloc, found, wanted, last);
+}
+
 #[test]
 fn a_lock_file_has_1024_pins(rt: HostRuntime) {
     let alloc = rt.alloc();
     let many = many_pins(alloc, 1022).expect(&rt, "memory");
-    for (last, place, kind) in [
-        ("mona.b", "", None),
-        ("mona.a", "/pins/1023/identity", Some(Kind::Doubled)),
-        ("mona.p1021", "/pins/1023/identity", Some(Kind::Doubled)),
-    ] {
-        let json = lock_ending(alloc, many.as_str(), last).expect(&rt, "memory");
-        let found = read(alloc, json.as_str());
-        assert_reading(&rt, found, place, kind, last);
-    }
+    let many = many.as_str();
+    assert_ending(&rt, alloc, many, "mona.b", "ok");
+    assert_ending(&rt, alloc, many, "mona.a", "/pins/1023/identity: doubled");
+    assert_ending(
+        &rt,
+        alloc,
+        many,
+        "mona.p1021",
+        "/pins/1023/identity: doubled",
+    );
 }

@@ -1,4 +1,4 @@
-use crate::support::nested_lists;
+use crate::support::{assert_outcome, assert_text, nested_lists, outcome, sides};
 use spm_manifest::{Ask, Guard, Manifest, ManifestFault, Need, Target};
 use spm_trait::{TraitEntry, TraitName};
 use spm_version::{NoMemory, Release, Requirement};
@@ -31,26 +31,12 @@ impl Frame {
     }
 }
 
-/// What reading comes to: `ok`, or `PLACE: KIND` of the first fault.
-fn outcome(alloc: Global, bytes: &[u8]) -> Result<String, NoMemory> {
-    match Manifest::read(alloc, bytes) {
-        Ok(_) => Ok(String::from_str(alloc, "ok")?),
-        Err(ManifestFault::At { place, kind }) => Ok(format!(in alloc; "{place}: {kind}")?),
-        Err(ManifestFault::Memory) => Err(NoMemory),
-    }
-}
-
 /// Asserts what reading the piece comes to, where the place is that within the piece.
 fn assert_case(rt: &impl Abort, alloc: Global, frame: Frame, piece: &str, wanted: &str) {
     let json = frame.around(alloc, piece).expect(rt, "memory");
-    let found = outcome(alloc, json.as_bytes()).expect(rt, "memory");
+    let found = outcome(alloc, Manifest::read(alloc, json.as_bytes())).expect(rt, "memory");
     let wanted = frame.outcome(alloc, wanted).expect(rt, "memory");
-    assert_eq!(rt; found.as_str(), wanted.as_str(), "at {json}");
-}
-
-/// The sides of a line `PIECE => WANTED` of a table.
-fn sides<'l>(rt: &impl Abort, line: &'l str) -> (&'l str, &'l str) {
-    line.split_once(" => ").expect(rt, line)
+    assert_text(rt, found.as_str(), wanted.as_str(), json.as_str());
 }
 
 /// Asserts what reading each piece of a table comes to.
@@ -593,7 +579,7 @@ local /here, path, always, asks default"
 /// Asserts what a manifest says.
 fn assert_description(rt: &impl Abort, alloc: Global, manifest: &Manifest, wanted: &str) {
     let found = description(alloc, manifest).expect(rt, "memory");
-    assert_eq!(rt; found.as_str(), wanted);
+    assert_text(rt, found.as_str(), wanted, "a manifest");
 }
 
 #[test]
@@ -611,8 +597,8 @@ fn a_dump_that_is_cut_is_not_json(rt: HostRuntime) {
     let alloc = rt.alloc();
     let bytes = whole_dump().as_bytes();
     for length in 0..bytes.len() {
-        let found = outcome(alloc, &bytes[..length]).expect(&rt, "memory");
-        assert_eq!(rt; found.as_str(), "/: not JSON", "at {length}");
+        let found = Manifest::read(alloc, &bytes[..length]);
+        assert_outcome(&rt, alloc, found, "/: not JSON", "a prefix");
     }
 }
 
@@ -649,44 +635,52 @@ fn dependencies_are_read(rt: HostRuntime) {
     for line in read_dependencies().lines() {
         let (dependency, wanted) = sides(&rt, line);
         let found = need_in(alloc, dependency).expect(&rt, dependency);
-        assert_eq!(rt; found.as_str(), wanted, "at {dependency}");
+        assert_text(&rt, found.as_str(), wanted, dependency);
     }
 }
 
 /// Requirements, versions, and whether they are contained.
-fn contained() -> [(&'static str, &'static str, bool); 9] {
-    let range = r#"{"range":[{"lowerBound":"1.0.0","upperBound":"2.0.0"}]}"#;
-    let exact = r#"{"exact":["1.0.0"]}"#;
-    [
-        (range, "0.9.9", false),
-        (range, "1.0.0", true),
-        (range, "1.1.0", true),
-        (range, "2.0.0", false),
-        (exact, "1.0.0", true),
-        (exact, "1.0.1", false),
-        (exact, "1.0.0+x", false),
-        (r#"{"branch":["1.0.0"]}"#, "1.0.0", false),
-        (r#"{"revision":["1.0.0"]}"#, "1.0.0", false),
-    ]
+fn contained() -> &'static str {
+    r#"{"range":[{"lowerBound":"1.0.0","upperBound":"2.0.0"}]} / 0.9.9 => outside
+{"range":[{"lowerBound":"1.0.0","upperBound":"2.0.0"}]} / 1.0.0 => inside
+{"range":[{"lowerBound":"1.0.0","upperBound":"2.0.0"}]} / 1.1.0 => inside
+{"range":[{"lowerBound":"1.0.0","upperBound":"2.0.0"}]} / 2.0.0 => outside
+{"exact":["1.0.0"]} / 1.0.0 => inside
+{"exact":["1.0.0"]} / 1.0.1 => outside
+{"exact":["1.0.0"]} / 1.0.0+x => outside
+{"branch":["1.0.0"]} / 1.0.0 => outside
+{"revision":["1.0.0"]} / 1.0.0 => outside"#
 }
 
 /// Whether the requirement of the only dependency of a dump contains the version.
-fn contains(rt: &impl Abort, alloc: Global, requirement: &str, version: &str) -> bool {
+fn containment(manifest: &Manifest, version: &Release) -> &'static str {
+    match manifest.needs() {
+        [need] if need.requirement.contains(version) => "inside",
+        [_] => "outside",
+        _ => "not one dependency",
+    }
+}
+
+/// Asserts whether a requirement contains a version.
+fn assert_containment(
+    rt: &impl Abort,
+    alloc: Global,
+    requirement: &str,
+    version: &str,
+    wanted: &str,
+) {
     let json = COMMIT.around(alloc, requirement).expect(rt, "memory");
     let release = Release::parse(alloc, version).expect(rt, version);
     let manifest = Manifest::read(alloc, json.as_bytes()).expect(rt, requirement);
-    match manifest.needs() {
-        [need] => need.requirement.contains(&release),
-        _ => panic!(rt; "one dependency"),
-    }
+    assert_text(rt, containment(&manifest, &release), wanted, requirement);
 }
 
 #[test]
 fn requirements_contain_versions(rt: HostRuntime) {
-    let alloc = rt.alloc();
-    for (requirement, version, wanted) in contained() {
-        let found = contains(&rt, alloc, requirement, version);
-        assert_eq!(rt; found, wanted, "{version} in {requirement}");
+    for line in contained().lines() {
+        let (case, wanted) = sides(&rt, line);
+        let (requirement, version) = case.split_once(" / ").expect(&rt, case);
+        assert_containment(&rt, rt.alloc(), requirement, version, wanted);
     }
 }
 
@@ -756,7 +750,7 @@ fn assert_guards(rt: &impl Abort, alloc: Global, frame: Frame, table: &str) {
         let (targets, wanted) = sides(rt, line);
         let json = frame.around(alloc, targets).expect(rt, "memory");
         let found = guards_in(alloc, json.as_str()).expect(rt, targets);
-        assert_eq!(rt; found.as_str(), wanted, "at {targets}");
+        assert_text(rt, found.as_str(), wanted, targets);
     }
 }
 

@@ -1,226 +1,189 @@
-use crate::support::assert_reading;
-use spm_json::ReadFault;
-use spm_shelf::{ShelfFile, ShelfRelease};
-use spm_version::Kind;
-use std::alloc::{AllocError, Global};
+use crate::support::{assert_text, fault_text, sides};
+use spm_digest::hex_of;
+use spm_shelf::{Shelf, ShelfFault, ShelfFile, ShelfPackage, ShelfRelease, ShelfUrl};
+use spm_version::{NoMemory, Text};
+use std::alloc::Global;
 use std::process::Abort;
-use std::test::Fail;
 
-// The SHA-256 of no bytes.
-const SUM_OF_NOTHING: [u8; 32] = [
-    0xe3, 0xb0, 0xc4, 0x42, 0x98, 0xfc, 0x1c, 0x14, 0x9a, 0xfb, 0xf4, 0xc8, 0x99, 0x6f, 0xb9, 0x24,
-    0x27, 0xae, 0x41, 0xe4, 0x64, 0x9b, 0x93, 0x4c, 0xa4, 0x95, 0x99, 0x1b, 0x78, 0x52, 0xb8, 0x55,
-];
-
-fn read(alloc: Global, json: &str) -> Result<ShelfFile, ReadFault> {
-    ShelfFile::read(alloc, json.as_bytes())
-}
-
-// A shelf with one release.
-fn shelf_with(alloc: Global, release: &str) -> Result<String, AllocError> {
-    format!(in alloc; r#"{{"packages":{{"mona.a":{{"1.0.0":{release}}}}}}}"#)
-}
-
-// The release of a shelf that has one.
-fn sole_release<'s>(rt: &impl Abort, shelf: &'s ShelfFile) -> &'s ShelfRelease {
-    let [package] = shelf.packages.as_slice() else {
-        panic!(rt; "one package");
-    };
-    let [release] = package.releases.as_slice() else {
-        panic!(rt; "one release");
-    };
-    release
-}
-
-// Packages come in the byte order of their keys in the file, and releases in that of their texts.
-#[test]
-fn packages_and_releases_come_in_byte_order(rt: HostRuntime) -> Result<(), Fail> {
-    let alloc = rt.alloc();
-    let shelf = read(
-        alloc,
-        r#"{"packages":{"mona.a":{},"mona.B":{"1.9.0":{"problem":"x"},"1.10.0":{"problem":"y"}}}}"#,
-    )?;
-    let [first, second] = shelf.packages.as_slice() else {
-        panic!(rt; "two packages");
-    };
-    assert_eq!(rt; first.identity.text(), "mona.b");
-    assert_eq!(rt; second.identity.text(), "mona.a");
-    assert_eq!(rt; second.releases.as_slice().len(), 0);
-    let [tenth, ninth] = first.releases.as_slice() else {
-        panic!(rt; "two releases");
-    };
-    assert_eq!(rt; tenth.release.to_string(alloc)?.as_str(), "1.10.0");
-    assert_eq!(rt; ninth.release.to_string(alloc)?.as_str(), "1.9.0");
-    Ok(())
-}
-
-#[test]
-fn releases_are_read(rt: HostRuntime) -> Result<(), Fail> {
-    let alloc = rt.alloc();
-    for (release, problem, manifest, archive, checksum) in [
-        (
-            r#"{"manifest":"{}","archive":"616263"}"#,
-            None,
-            Some("{}"),
-            Some(b"abc".as_slice()),
-            None,
-        ),
-        (
-            r#"{"problem":null,"manifest":"","archive":"","checksum":null,"other":1}"#,
-            None,
-            Some(""),
-            Some(b""),
-            None,
-        ),
-        (
-            r#"{"manifest":"é","archive":"FfC0","checksum":"E3B0C44298FC1C149AFBF4C8996FB92427AE41E4649B934CA495991B7852b855"}"#,
-            None,
-            Some("é"),
-            Some(b"\xff\xc0"),
-            Some(SUM_OF_NOTHING),
-        ),
-        (r#"{"problem":"gone"}"#, Some("gone"), None, None, None),
-        (
-            r#"{"problem":"gone","manifest":"{}","archive":null}"#,
-            Some("gone"),
-            Some("{}"),
-            None,
-            None,
-        ),
-        (
-            r#"{"problem":"","manifest":null,"archive":"61"}"#,
-            Some(""),
-            None,
-            Some(b"a"),
-            None,
-        ),
-    ] {
-        let json = shelf_with(alloc, release)?;
-        let shelf = read(alloc, json.as_str())?;
-        let found = sole_release(&rt, &shelf);
-        let text = found.problem.as_ref().map(|text| text.as_str());
-        assert_eq!(rt; text, problem, "problem of {release}");
-        let text = found.manifest.as_ref().map(|text| text.as_str());
-        assert_eq!(rt; text, manifest, "manifest of {release}");
-        let bytes = found.archive.as_ref().map(|archive| archive.bytes());
-        assert_eq!(rt; bytes, archive, "archive of {release}");
-        let sum = found.checksum.as_ref().map(|checksum| checksum.sum);
-        assert_eq!(rt; sum, checksum, "checksum of {release}");
+// Adds a text behind its name, where there is one.
+fn push_some(line: &mut String, name: &str, text: &Option<Text>) -> Result<(), NoMemory> {
+    if let Some(text) = text {
+        write!(line, " {name}={text}")?;
     }
     Ok(())
 }
 
-#[test]
-fn urls_are_read(rt: HostRuntime) -> Result<(), Fail> {
-    let alloc = rt.alloc();
-    let shelf = read(
-        alloc,
-        r#"{"packages":{},"urls":{"https://b":["mona.B","mona.A"],"https://a":[]}}"#,
-    )?;
-    let [first, second] = shelf.urls.as_slice() else {
-        panic!(rt; "two urls");
-    };
-    assert_eq!(rt; first.url.as_str(), "https://a");
-    assert_eq!(rt; first.identities.as_slice().len(), 0);
-    assert_eq!(rt; second.url.as_str(), "https://b");
-    let [b, a] = second.identities.as_slice() else {
-        panic!(rt; "two identities");
-    };
-    assert_eq!(rt; b.text(), "mona.b");
-    assert_eq!(rt; a.text(), "mona.a");
-    Ok(())
-}
-
-// The faults of one release, which stands under foreign keys.
-#[test]
-fn faults_of_releases_stand_at_all_packages(rt: HostRuntime) -> Result<(), Fail> {
-    let alloc = rt.alloc();
-    for (release, kind) in [
-        (r#"{"manifest":"{}","archive":""}"#, None),
-        (r#"[]"#, Some(Kind::WrongKind)),
-        (r#"{"archive":""}"#, Some(Kind::Missing)),
-        (r#"{"manifest":null,"archive":""}"#, Some(Kind::Missing)),
-        (r#"{"problem":null,"archive":""}"#, Some(Kind::Missing)),
-        (r#"{"manifest":"{}"}"#, Some(Kind::Missing)),
-        (r#"{"manifest":{},"archive":""}"#, Some(Kind::WrongKind)),
-        (r#"{"manifest":"{}","archive":[]}"#, Some(Kind::WrongKind)),
-        (r#"{"manifest":"{}","archive":"6"}"#, Some(Kind::BadHex)),
-        (r#"{"manifest":"{}","archive":"zz"}"#, Some(Kind::BadHex)),
-        (r#"{"problem":"x","archive":"zz"}"#, Some(Kind::BadHex)),
-        (r#"{"problem":3}"#, Some(Kind::WrongKind)),
-        (
-            r#"{"problem":"x","checksum":"e3b0c44298fc1c149afbf4c8996fb92427ae41e4649b934ca495991b7852b855"}"#,
-            None,
-        ),
-        (
-            r#"{"problem":"x","checksum":"e3b0c44298fc1c149afbf4c8996fb92427ae41e4649b934ca495991b7852b85"}"#,
-            Some(Kind::BadHex),
-        ),
-        (
-            r#"{"problem":"x","checksum":"g3b0c44298fc1c149afbf4c8996fb92427ae41e4649b934ca495991b7852b855"}"#,
-            Some(Kind::BadHex),
-        ),
-        (r#"{"problem":"x","checksum":3}"#, Some(Kind::WrongKind)),
-    ] {
-        let json = shelf_with(alloc, release)?;
-        let found = read(alloc, json.as_str());
-        assert_reading(&rt, found, "/packages", kind, release);
+fn push_release(line: &mut String, alloc: Global, entry: &ShelfRelease) -> Result<(), NoMemory> {
+    write!(line, " {}", entry.release)?;
+    push_some(line, "problem", &entry.problem)?;
+    push_some(line, "manifest", &entry.manifest)?;
+    if let Some(archive) = &entry.archive {
+        write!(line, " archive={:?}", archive.bytes())?;
+    }
+    if let Some(checksum) = &entry.checksum {
+        write!(line, " checksum={}", hex_of(alloc, &checksum.sum)?)?;
     }
     Ok(())
 }
 
-#[test]
-fn the_first_fault_of_a_shelf_is_told(rt: HostRuntime) {
-    for (json, place, kind) in [
-        (r#"{"packages":{}}"#, "", None),
-        (r#"{"packages":{},"urls":null}"#, "", None),
-        (r#"{"packages":{"#, "/", Some(Kind::NotJson)),
-        (r#"[]"#, "/", Some(Kind::WrongKind)),
-        (r#"{"urls":[]}"#, "/packages", Some(Kind::Missing)),
-        (r#"{"packages":[]}"#, "/packages", Some(Kind::WrongKind)),
-        (r#"{"packages":null}"#, "/packages", Some(Kind::WrongKind)),
-        (
-            r#"{"packages":{"mona":{}}}"#,
-            "/packages",
-            Some(Kind::BadIdentity),
-        ),
-        (
-            r#"{"packages":{"mona":[]},"urls":[]}"#,
-            "/packages",
-            Some(Kind::BadIdentity),
-        ),
-        (
-            r#"{"packages":{"mona.a":[]}}"#,
-            "/packages",
-            Some(Kind::WrongKind),
-        ),
-        (
-            r#"{"packages":{"mona.a":[],"mona.A":{}}}"#,
-            "/packages",
-            Some(Kind::Doubled),
-        ),
-        (
-            r#"{"packages":{"mona.a":{"1.0":{"problem":"x"}}}}"#,
-            "/packages",
-            Some(Kind::BadVersion),
-        ),
-        (
-            r#"{"packages":{},"urls":[]}"#,
-            "/urls",
-            Some(Kind::WrongKind),
-        ),
-        (
-            r#"{"packages":{},"urls":{"https://a":"mona.a"}}"#,
-            "/urls",
-            Some(Kind::WrongKind),
-        ),
-        (
-            r#"{"packages":{},"urls":{"https://a":["mona.a","mona"]}}"#,
-            "/urls",
-            Some(Kind::BadIdentity),
-        ),
-    ] {
-        let found = read(rt.alloc(), json);
-        assert_reading(&rt, found, place, kind, json);
+fn push_package(line: &mut String, alloc: Global, entry: &ShelfPackage) -> Result<(), NoMemory> {
+    write!(line, "{}:", entry.identity)?;
+    for release in entry.releases.as_slice() {
+        push_release(line, alloc, release)?;
     }
+    line.push(';')?;
+    Ok(())
+}
+
+fn push_url(line: &mut String, entry: &ShelfUrl) -> Result<(), NoMemory> {
+    write!(line, "{}:", entry.url)?;
+    for identity in entry.identities.as_slice() {
+        write!(line, " {identity}")?;
+    }
+    line.push(';')?;
+    Ok(())
+}
+
+// All that packages and URLs say.
+fn description(
+    alloc: Global,
+    packages: &[ShelfPackage],
+    urls: &[ShelfUrl],
+) -> Result<String, NoMemory> {
+    let mut line = String::from_str(alloc, "{")?;
+    for entry in packages {
+        push_package(&mut line, alloc, entry)?;
+    }
+    for entry in urls {
+        push_url(&mut line, entry)?;
+    }
+    line.push('}')?;
+    Ok(line)
+}
+
+// What a file is read as: what a copy of it says, or its first fault.
+fn file_outcome(alloc: Global, json: &str) -> Result<String, NoMemory> {
+    match ShelfFile::read(alloc, json.as_bytes()) {
+        Ok(file) => {
+            let copy = file.copy(alloc)?;
+            description(alloc, copy.packages.as_slice(), copy.urls.as_slice())
+        }
+        Err(fault) => fault_text(alloc, &fault),
+    }
+}
+
+// Asserts what a file is read as.
+fn assert_file(rt: &impl Abort, alloc: Global, json: &str, wanted: &str) {
+    let found = file_outcome(alloc, json).expect(rt, "memory");
+    assert_text(rt, found.as_str(), wanted, json);
+}
+
+// Files with what they say, packages in the byte order of their keys in the file, releases in that of their texts and URLs in
+// byte order, or with their first fault.
+fn files() -> &'static str {
+    r#"{"packages":{}} => {}
+{"packages":{},"urls":null} => {}
+{"packages":{"mona.a":{},"mona.B":{"1.9.0":{"problem":"x"},"1.10.0":{"problem":"y"}}}} => {mona.b: 1.10.0 problem=y 1.9.0 problem=x;mona.a:;}
+{"packages":{},"urls":{"https://b":["mona.B","mona.A"],"https://a":[]}} => {https://a:;https://b: mona.b mona.a;}
+{"packages":{ => /: not JSON
+[] => /: wrong kind
+{"urls":[]} => /packages: missing
+{"packages":[]} => /packages: wrong kind
+{"packages":null} => /packages: wrong kind
+{"packages":{"mona":{}}} => /packages: bad identity
+{"packages":{"mona":[]},"urls":[]} => /packages: bad identity
+{"packages":{"mona.a":[]}} => /packages: wrong kind
+{"packages":{"mona.a":[],"mona.A":{}}} => /packages: doubled
+{"packages":{"mona.a":{"1.0":{"problem":"x"}}}} => /packages: bad version
+{"packages":{},"urls":[]} => /urls: wrong kind
+{"packages":{},"urls":{"https://a":"mona.a"}} => /urls: wrong kind
+{"packages":{},"urls":{"https://a":["mona.a","mona"]}} => /urls: bad identity"#
+}
+
+#[test]
+fn files_are_read(rt: HostRuntime) {
+    for line in files().lines() {
+        let (json, wanted) = sides(&rt, line);
+        assert_file(&rt, rt.alloc(), json, wanted);
+    }
+}
+
+// Asserts what a file with one release is read as.
+fn assert_release(rt: &impl Abort, alloc: Global, release: &str, wanted: &str) {
+    let json = format!(in alloc; r#"{{"packages":{{"mona.a":{{"1.0.0":{release}}}}}}}"#).expect(
+        rt, "memory",
+    );
+    assert_file(rt, alloc, json.as_str(), wanted);
+}
+
+// The only releases of files. They stand under foreign keys, so that their faults stand at all packages.
+fn releases() -> &'static str {
+    r#"{"manifest":"{}","archive":"616263"} => {mona.a: 1.0.0 manifest={} archive=[97, 98, 99];}
+{"problem":null,"manifest":"","archive":"","checksum":null,"other":1} => {mona.a: 1.0.0 manifest= archive=[];}
+{"manifest":"é","archive":"FfC0","checksum":"E3B0C44298FC1C149AFBF4C8996FB92427AE41E4649B934CA495991B7852b855"} => {mona.a: 1.0.0 manifest=é archive=[255, 192] checksum=e3b0c44298fc1c149afbf4c8996fb92427ae41e4649b934ca495991b7852b855;}
+{"problem":"gone"} => {mona.a: 1.0.0 problem=gone;}
+{"problem":"gone","manifest":"{}","archive":null} => {mona.a: 1.0.0 problem=gone manifest={};}
+{"problem":"","manifest":null,"archive":"61"} => {mona.a: 1.0.0 problem= archive=[97];}
+{"manifest":"{}","archive":""} => {mona.a: 1.0.0 manifest={} archive=[];}
+{"problem":"x","checksum":"e3b0c44298fc1c149afbf4c8996fb92427ae41e4649b934ca495991b7852b855"} => {mona.a: 1.0.0 problem=x checksum=e3b0c44298fc1c149afbf4c8996fb92427ae41e4649b934ca495991b7852b855;}
+[] => /packages: wrong kind
+{"archive":""} => /packages: missing
+{"manifest":null,"archive":""} => /packages: missing
+{"problem":null,"archive":""} => /packages: missing
+{"manifest":"{}"} => /packages: missing
+{"manifest":{},"archive":""} => /packages: wrong kind
+{"manifest":"{}","archive":[]} => /packages: wrong kind
+{"manifest":"{}","archive":"6"} => /packages: bad hex
+{"manifest":"{}","archive":"zz"} => /packages: bad hex
+{"problem":"x","archive":"zz"} => /packages: bad hex
+{"problem":3} => /packages: wrong kind
+{"problem":"x","checksum":"e3b0c44298fc1c149afbf4c8996fb92427ae41e4649b934ca495991b7852b85"} => /packages: bad hex
+{"problem":"x","checksum":"g3b0c44298fc1c149afbf4c8996fb92427ae41e4649b934ca495991b7852b855"} => /packages: bad hex
+{"problem":"x","checksum":3} => /packages: wrong kind"#
+}
+
+#[test]
+fn releases_are_read(rt: HostRuntime) {
+    for line in releases().lines() {
+        let (release, wanted) = sides(&rt, line);
+        assert_release(&rt, rt.alloc(), release, wanted);
+    }
+}
+
+// A copy of the shelf that a file is.
+fn shelf(alloc: Global, bytes: &[u8]) -> Result<Shelf, ShelfFault> {
+    Ok(Shelf::read(alloc, bytes)?.copy(alloc)?)
+}
+
+// What the shelf says that a file is, and that is read of the shelf's own text.
+fn shelved(alloc: Global, json: &str) -> Result<String, ShelfFault> {
+    let text = shelf(alloc, json.as_bytes())?.text(alloc)?;
+    let again = shelf(alloc, text.as_slice())?;
+    Ok(description(alloc, again.packages(), again.urls())?)
+}
+
+const UNSORTED: &str =
+    r#"{"packages":{"mona.a":{"1.9.0":{"problem":"x"},"1.10.0":{"manifest":"{}","archive":"61"}},"mona.B":{}},"urls":{"b":["mona.a"],"a":[]}}"#;
+
+#[test]
+fn shelves_have_their_packages_in_order(rt: HostRuntime) {
+    let found = shelved(rt.alloc(), UNSORTED).expect(&rt, "a shelf");
+    let wanted = "{mona.a: 1.10.0 manifest={} archive=[97] 1.9.0 problem=x;mona.b:;a:;b: mona.a;}";
+    assert_text(&rt, found.as_str(), wanted, UNSORTED);
+}
+
+// Whether the packages and URLs of a file are those of a shelf as they stand.
+fn is_shelf(alloc: Global, json: &str) -> Result<bool, ShelfFault> {
+    let ShelfFile { packages, urls } = ShelfFile::read(alloc, json.as_bytes())?;
+    Ok(Shelf::of(alloc, packages, urls)?.is_some())
+}
+
+#[test]
+fn a_shelf_is_made_of_what_stands_in_order(rt: HostRuntime) {
+    let is_made = is_shelf(rt.alloc(), UNSORTED).expect(&rt, "a file");
+    assert!(rt; !is_made);
+    let sorted =
+        r#"{"packages":{"mona.A":{"1.0.0":{"problem":"x"},"1.1.0":{"problem":"y"}},"mona.b":{}},"urls":{"a":[]}}"#;
+    let is_made = is_shelf(rt.alloc(), sorted).expect(&rt, "a file");
+    assert!(rt; is_made);
 }

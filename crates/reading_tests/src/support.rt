@@ -1,29 +1,44 @@
 use spm_json::ReadFault;
-use spm_version::Kind;
+use spm_version::NoMemory;
 use std::alloc::{AllocError, Global};
 use std::process::Abort;
 
-/// Asserts that an item was read, or that it has its first fault at this place where a kind is given.
-pub fn assert_reading<T: Drop>(
+/// The sides of a line `CASE => WANTED` of a table.
+pub fn sides<'l>(rt: &impl Abort, line: &'l str) -> (&'l str, &'l str) {
+    line.split_once(" => ").expect(rt, line)
+}
+
+/// Asserts what a case comes to.
+pub fn assert_text(rt: &impl Abort, found: &str, wanted: &str, case: &str) {
+    assert_eq!(rt; found, wanted, "at {case}");
+}
+
+/// What a fault comes to: `PLACE: KIND` of a copy of it.
+pub fn fault_text(alloc: Global, fault: &ReadFault) -> Result<String, NoMemory> {
+    match fault.copy(alloc)? {
+        ReadFault::At { place, kind } => format!(in alloc; "{place}: {kind}"),
+        ReadFault::Memory => Err(NoMemory),
+    }
+}
+
+/// What reading comes to: `ok`, or its first fault.
+pub fn outcome<T: Drop>(alloc: Global, found: Result<T, ReadFault>) -> Result<String, NoMemory> {
+    match found {
+        Ok(_) => Ok(String::from_str(alloc, "ok")?),
+        Err(fault) => fault_text(alloc, &fault),
+    }
+}
+
+/// Asserts what reading comes to.
+pub fn assert_outcome<T: Drop>(
     rt: &impl Abort,
+    alloc: Global,
     found: Result<T, ReadFault>,
-    place: &str,
-    kind: Option<Kind>,
+    wanted: &str,
     case: &str,
 ) {
-    match found {
-        Ok(_) => assert_eq!(rt; None, kind, "nothing is wrong with {case}"),
-        Err(
-            ReadFault::At {
-                place: found_place,
-                kind: found_kind,
-            },
-        ) => {
-            assert_eq!(rt; Some(found_kind), kind, "at {found_place} of {case}");
-            assert_eq!(rt; found_place.as_str(), place, "{found_kind} in {case}");
-        }
-        Err(ReadFault::Memory) => panic!(rt; "no memory for {case}"),
-    }
+    let text = outcome(alloc, found).expect(rt, "memory");
+    assert_text(rt, text.as_str(), wanted, case);
 }
 
 /// That many lists in one another, the innermost empty.

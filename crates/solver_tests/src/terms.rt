@@ -1,3 +1,4 @@
+// Terms, incompatibilities, names of nodes and causes.
 ghost use Rattle.std.specs.Prelude.{[], ◌∷◌, IsTrue};
 ghost use Rattle.std.specs.Option.{option_copied};
 ghost use Rattle.pub_term.specs.Known.{AreKnown};
@@ -5,34 +6,23 @@ ghost use Rattle.pub_term.specs.Resolvent.{CanResolve};
 ghost use Rattle.pub_term.specs.Term.{AreNodesAscending, IsIncompat};
 ghost use Rattle.solver_tests.specs.Agreed.{Agree, Fits};
 
-use crate::sets::{bits, made};
+use crate::sets::set;
 use pub_set::Choices;
 use pub_term::{Cause, Incompat, NodeName, Subject, Term, resolve};
 use spm_ident::Identity;
-use spm_trait::{Listed, TraitName};
+use spm_trait::TraitName;
 use spm_version::{Items, NoMemory, Release, Requirement, Text};
 use std::alloc::Global;
 use std::cmp::Ordering;
-use std::fmt::Write;
+use std::process::Abort;
 
 const SIZE: u32 = 4;
 
-// The set of the bits of a number: 0b1001 has the first choice and the last.
-fn four(alloc: Global, bits: u32) -> Result<Choices, NoMemory> {
-    let mut choices = Vec::new(alloc);
-    for choice in 0..SIZE {
-        if bits >> choice & 1 == 1 {
-            choices.push(choice)?;
-        }
-    }
-    made(alloc, SIZE, &choices).map_err(|_| NoMemory)
-}
-
 // The sets of the bits of the numbers.
-fn fours(alloc: Global, sets: &[u32]) -> Result<Vec<Choices>, NoMemory> {
+fn known_sets(alloc: Global, sets: &[u32]) -> Result<Vec<Choices>, NoMemory> {
     let mut known = Vec::new(alloc);
     for bits in sets {
-        known.push(four(alloc, *bits)?)?;
+        known.push(set(alloc, SIZE, *bits)?)?;
     }
     Ok(known)
 }
@@ -43,22 +33,11 @@ fn incompat(alloc: Global, sets: &[u32; 4]) -> Result<Incompat, NoMemory> {
     for node in 0..4 {
         let bits = sets[node as usize];
         if bits != 0 {
-            let choices = four(alloc, bits)?;
+            let choices = set(alloc, SIZE, bits)?;
             terms.push(Term { node, choices })?;
         }
     }
     Ok(Incompat { terms })
-}
-
-// The terms in their order, as `node=bits`.
-fn told(alloc: Global, incompat: &Incompat) -> Result<String, NoMemory> {
-    let mut text = String::new(alloc);
-    for term in incompat.terms.as_slice() {
-        let node = term.node;
-        let bits = bits(&term.choices);
-        write!(text, "{node}={bits:04b} ")?;
-    }
-    Ok(text)
 }
 
 // `resolve`, `holds` and `almost` ask something of what they are called on. The helpers from here on find out whether it is
@@ -142,94 +121,92 @@ fn are_known(known: &[Choices], incompat: &Incompat) -> bool
     true
 }
 
-// The terms of the resolution, where it may be asked for.
+// The resolution, where it may be asked for.
 fn resolved(
     alloc: Global,
     first: &[u32; 4],
     second: &[u32; 4],
     on: u32,
-) -> Result<String, NoMemory> {
+) -> Result<Option<Incompat>, NoMemory> {
     let first = incompat(alloc, first)?;
     let second = incompat(alloc, second)?;
     if is_incompat(&first) && is_incompat(&second) && can_resolve(&first, &second, on) {
-        told(alloc, &resolve(alloc, &first, &second, on)?)
+        Ok(Some(resolve(alloc, &first, &second, on)?))
     } else {
-        Ok(String::from_str(alloc, "not to be resolved")?)
+        Ok(None)
     }
+}
+
+// Asserts what a resolution comes to.
+fn assert_resolved(
+    rt: &impl Abort,
+    alloc: Global,
+    sides: &[[u32; 4]; 2],
+    on: u32,
+    wanted: &[u32; 4],
+) {
+    let found = resolved(alloc, &sides[0], &sides[1], on).expect(rt, "memory");
+    let wanted = incompat(alloc, wanted).expect(rt, "memory");
+    assert!(rt; found == Some(wanted));
 }
 
 #[test]
 fn resolutions_unite_on_the_node_and_intersect_on_others(rt: HostRuntime) {
-    for (first, second, on, found) in [
-        ([0b0011, 0, 0, 0], [0b0110, 0, 0, 0], 0, "0=0111 "),
-        ([0b0011, 0, 0, 0], [0b1100, 0, 0, 0], 0, ""),
-        (
-            [0b0011, 0, 0b1000, 0],
-            [0b0110, 0b0100, 0, 0],
-            0,
-            "0=0111 1=0100 2=1000 ",
-        ),
-        (
-            [0b0011, 0b0111, 0b1010, 0],
-            [0b1100, 0b1110, 0b1100, 0b0001],
-            0,
-            "1=0110 2=1000 3=0001 ",
-        ),
-        (
-            [0, 0b0001, 0b0011, 0b0110],
-            [0b0111, 0, 0b0101, 0b1011],
-            3,
-            "0=0111 1=0001 2=0001 ",
-        ),
-        (
-            [0, 0b0001, 0b0011, 0b0110],
-            [0b0111, 0, 0b0101, 0b0011],
-            3,
-            "0=0111 1=0001 2=0001 3=0111 ",
-        ),
-        (
-            [0, 0b0011, 0, 0],
-            [0b0001, 0b1100, 0, 0b0110],
-            1,
-            "0=0001 3=0110 ",
-        ),
-    ] {
-        let told = resolved(rt.alloc(), &first, &second, on).expect(&rt, "memory");
-        assert_eq!(rt; told.as_str(), found, "{first:?} and {second:?} on {on}");
-    }
+    let alloc = rt.alloc();
+    let sides = [[0b0011, 0, 0, 0], [0b0110, 0, 0, 0]];
+    assert_resolved(&rt, alloc, &sides, 0, &[0b0111, 0, 0, 0]);
+    let sides = [[0b0011, 0, 0, 0], [0b1100, 0, 0, 0]];
+    assert_resolved(&rt, alloc, &sides, 0, &[0, 0, 0, 0]);
+    let sides = [[0b0011, 0, 0b1000, 0], [0b0110, 0b0100, 0, 0]];
+    assert_resolved(&rt, alloc, &sides, 0, &[0b0111, 0b0100, 0b1000, 0]);
+    let sides = [
+        [0b0011, 0b0111, 0b1010, 0],
+        [0b1100, 0b1110, 0b1100, 0b0001],
+    ];
+    assert_resolved(&rt, alloc, &sides, 0, &[0, 0b0110, 0b1000, 0b0001]);
+    let sides = [[0, 0b0001, 0b0011, 0b0110], [0b0111, 0, 0b0101, 0b1011]];
+    assert_resolved(&rt, alloc, &sides, 3, &[0b0111, 0b0001, 0b0001, 0]);
+    let sides = [[0, 0b0001, 0b0011, 0b0110], [0b0111, 0, 0b0101, 0b0011]];
+    assert_resolved(&rt, alloc, &sides, 3, &[0b0111, 0b0001, 0b0001, 0b0111]);
+    let sides = [[0, 0b0011, 0, 0], [0b0001, 0b1100, 0, 0b0110]];
+    assert_resolved(&rt, alloc, &sides, 1, &[0b0001, 0, 0, 0b0110]);
 }
 
+const KNOWN: [u32; 4] = [0b0001, 0b0110, 0b1111, 0];
+
 // What `holds` and `almost` answer, where they may be asked.
-fn propagated(
-    alloc: Global,
-    known: &[u32; 4],
-    terms: &[u32; 4],
-) -> Result<Option<(bool, Option<u32>)>, NoMemory> {
-    let known = fours(alloc, known)?;
+fn propagated(alloc: Global, terms: &[u32; 4]) -> Result<Option<(bool, Option<u32>)>, NoMemory> {
+    let known = known_sets(alloc, &KNOWN)?;
     let incompat = incompat(alloc, terms)?;
-    if is_incompat(&incompat) && are_known(&known, &incompat) {
+    if are_known(&known, &incompat) {
         Ok(Some((incompat.holds(&known), incompat.almost(&known))))
     } else {
         Ok(None)
     }
 }
 
+// Asserts what they answer.
+fn assert_propagated(
+    rt: &impl Abort,
+    alloc: Global,
+    terms: [u32; 4],
+    holds: bool,
+    almost: Option<u32>,
+) {
+    assert!(rt; propagated(alloc, &terms) == Ok(Some((holds, almost))));
+}
+
 #[test]
 fn terms_hold_by_what_is_known(rt: HostRuntime) {
-    let known = [0b0001, 0b0110, 0b1111, 0];
-    for (terms, holds, almost) in [
-        ([0, 0, 0, 0], true, None),
-        ([0b0011, 0b1110, 0, 0b0001], true, None),
-        ([0b0011, 0b0010, 0, 0], false, Some(1)),
-        ([0b0011, 0b1110, 0b1000, 0], false, Some(2)),
-        ([0b0010, 0b0110, 0, 0], false, None),
-        ([0b0011, 0b1001, 0, 0], false, None),
-        ([0b0011, 0b0010, 0b1000, 0], false, None),
-        ([0b0010, 0b0010, 0, 0], false, None),
-    ] {
-        let found = propagated(rt.alloc(), &known, &terms);
-        assert_eq!(rt; found, Ok(Some((holds, almost))), "{terms:?}");
-    }
+    let alloc = rt.alloc();
+    assert_propagated(&rt, alloc, [0, 0, 0, 0], true, None);
+    assert_propagated(&rt, alloc, [0b0011, 0b1110, 0, 0b0001], true, None);
+    assert_propagated(&rt, alloc, [0b0011, 0b0010, 0, 0], false, Some(1));
+    assert_propagated(&rt, alloc, [0b0011, 0b1110, 0b1000, 0], false, Some(2));
+    assert_propagated(&rt, alloc, [0b0010, 0b0110, 0, 0], false, None);
+    assert_propagated(&rt, alloc, [0b0011, 0b1001, 0, 0], false, None);
+    assert_propagated(&rt, alloc, [0b0011, 0b0010, 0b1000, 0], false, None);
+    assert_propagated(&rt, alloc, [0b0010, 0b0010, 0, 0], false, None);
 }
 
 // The root, where there is no package; a trait, where there is one.
@@ -255,32 +232,50 @@ const NODES: [(&str, &str, &str); 5] = [
     ("b.a", "", "b.a"),
 ];
 
+// The node of that place.
+fn node_at(alloc: Global, place: usize) -> Option<NodeName> {
+    let (package, name, _) = NODES.get(place)?;
+    node(alloc, package, name)
+}
+
 // The order of a copy of the first and the second, and whether they are equal.
 fn compared(alloc: Global, first: usize, second: usize) -> Option<(Ordering, bool)> {
-    let (package, name, _) = NODES.get(first)?;
-    let first = node(alloc, package, name)?;
-    let (package, name, _) = NODES.get(second)?;
-    let second = node(alloc, package, name)?;
+    let first = node_at(alloc, first)?;
+    let second = node_at(alloc, second)?;
     let copy = first.copy(alloc).ok()?;
     Some((copy.cmp(&second), copy == second))
 }
 
+// Asserts the text of the node of that place.
+fn assert_printed(rt: &impl Abort, alloc: Global, place: usize) {
+    let node = node_at(alloc, place).expect(rt, "memory");
+    let printed = node.to_string(alloc).expect(rt, "memory");
+    assert!(rt;
+        NODES
+            .get(place)
+            .is_some_and(|(_, _, text)| printed.as_str() == *text)
+    );
+}
+
 #[test]
 fn nodes_are_printed(rt: HostRuntime) {
-    for (package, name, text) in NODES {
-        let node = node(rt.alloc(), package, name).expect(&rt, text);
-        let printed = node.to_string(rt.alloc()).expect(&rt, "memory");
-        assert_eq!(rt; printed.as_str(), text);
-    }
+    let alloc = rt.alloc();
+    assert_printed(&rt, alloc, 0);
+    assert_printed(&rt, alloc, 1);
+    assert_printed(&rt, alloc, 2);
+    assert_printed(&rt, alloc, 3);
+    assert_printed(&rt, alloc, 4);
+}
+
+// Whether the two nodes are in the order of their places.
+fn are_ordered(alloc: Global, x: usize, y: usize) -> bool {
+    compared(alloc, x, y) == Some((x.cmp(&y), x == y))
 }
 
 #[test]
 fn nodes_are_ordered(rt: HostRuntime) {
-    for pair in 0..25 {
-        let (x, y) = (pair / 5, pair % 5);
-        let found = compared(rt.alloc(), x, y);
-        assert_eq!(rt; found, Some((x.cmp(&y), x == y)), "{x} and {y}");
-    }
+    let alloc = rt.alloc();
+    assert!(rt; (0..25).all(|pair| are_ordered(alloc, pair / 5, pair % 5)));
 }
 
 // Whether a copy of the incompatibility, and so of its terms, is equal.
@@ -300,19 +295,29 @@ fn subject(alloc: Global) -> Option<Subject> {
     under.push(TraitName::parse(alloc, "x").ok()?).ok()?;
     Some(Subject {
         owner: Some(owner),
-        under: Listed::from_vec(under),
+        under: Items::from_vec(under),
     })
 }
 
-// A cause and its copy, printed.
-fn printed_twice(alloc: Global) -> Option<(String, String)> {
+// A cause on that subject.
+fn cause(alloc: Global) -> Option<Cause> {
     let text = Text::from_str(alloc, "../a").ok()?;
-    let cause = Cause::Unversioned(subject(alloc)?, Requirement::Path, text);
+    Some(Cause::Unversioned(subject(alloc)?, Requirement::Path, text))
+}
+
+// Whether a copy of the cause, and so of its subject, is equal.
+fn is_copied(alloc: Global, cause: &Cause) -> Option<bool> {
     let copy = cause.copy(alloc).ok()?;
-    Some((
-        format!(in alloc; "{cause:?}").ok()?,
-        format!(in alloc; "{copy:?}").ok()?,
-    ))
+    Some(copy == *cause)
+}
+
+// The same of that cause, which isn't another.
+fn has_equal_cause(alloc: Global) -> Option<bool> {
+    let cause = cause(alloc)?;
+    if cause == Cause::Given {
+        return Some(false);
+    }
+    is_copied(alloc, &cause)
 }
 
 #[test]
@@ -321,6 +326,5 @@ fn copies_are_equal(rt: HostRuntime) {
         has_equal_copies(rt.alloc(), &[0b0001, 0, 0b0110, 0]),
         Ok(true)
     );
-    let (printed, copy) = printed_twice(rt.alloc()).expect(&rt, "memory");
-    assert_eq!(rt; printed.as_str(), copy.as_str());
+    assert_eq!(rt; has_equal_cause(rt.alloc()), Some(true));
 }

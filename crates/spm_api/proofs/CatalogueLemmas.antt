@@ -10,7 +10,7 @@ use Rattle.spm_outside.specs.Book.{Pages, response_of}
 use Rattle.spm_api.specs.Endpoint.{IsReply, request_for}
 use Rattle.spm_api.specs.Refused.{ComesFrom}
 use Rattle.spm_api.specs.declared.base.Base.{Base}
-use Rattle.spm_api.proofs.KeyLemmas.{same_key}
+use Rattle.spm_key.proofs.KeyLemmas.{same_key}
 
 -- what the book says of a key
 abbrev IsTold : Pages → Base → Key → Reply → Type 0
@@ -23,6 +23,7 @@ found pages base asked key reply had true same told earlier =
     subst (λ (k : Key). IsTold pages base k reply) (sym (same_key asked key same)) told
 found pages base asked key reply had false other told earlier = earlier
 
+-- with one more reply of the book a catalogue still comes from it
 pub ComesFrom-insert : (catalogue : Catalogue) (pages : Pages) (base : Base) (key : Key) (reply : Reply) → IsTold pages base key reply
     → ComesFrom catalogue pages base → ComesFrom (map.insert catalogue key reply) pages base
 ComesFrom-insert catalogue pages base key reply told comes asked =

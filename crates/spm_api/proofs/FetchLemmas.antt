@@ -10,6 +10,7 @@ use Rattle.spm_outside.specs.Book.{Pages, response_of}
 use Rattle.spm_outside.specs.declared.book.Authority.{Authority}
 use Rattle.spm_api.specs.Endpoint.{IsReply, limit_for}
 
+-- what is heard of the front is heard of all
 hears_cut : (limit : ℕ) (response : List ℕ) (heard : Heard) → Hears (Ok heard) limit (take (2 * limit + 65536 + 1) response) → Hears (Ok heard) limit response
 hears_cut limit response heard hears =
     let n = 2 * limit + 65536 + 1 in
@@ -23,6 +24,7 @@ hears_cut limit response heard hears =
       | inr within ↦ subst (Hears (Ok heard) limit) (take_all n response within) hears
     ]
 
+-- the reply of the front is that of all
 pub reply_cut : (key : Key) (response bytes : List ℕ) (reply : Reply) → bytes ≡ take (2 * limit_for key + 65536 + 1) response → IsReply key bytes reply
     → IsReply key response reply
 reply_cut key response bytes reply cut is = record {

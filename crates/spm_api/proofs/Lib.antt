@@ -1,6 +1,7 @@
 pub mod CatalogueLemmas
+pub mod DistinctLemmas
 pub mod FetchLemmas
-pub mod KeyLemmas
+pub mod LeastLemmas
 pub mod NewestLemmas
 pub mod ReplyLaws
 pub mod SlashLemmas

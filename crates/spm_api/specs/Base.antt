@@ -1,8 +1,8 @@
 -- The base of a registry: a URL as the URL Standard reads it, with the scheme `http`, a host, and neither user information, query nor
 -- fragment.
+use Rattle.std.specs.Str.{bytes_eq}
 use Rattle.std.specs.Prelude.{◌≡◌, ℕ, ◌==◌, ◌&&◌, List, [], ◌∷◌, codes, Bool, not, is_some, Option, Some, None, unwrap_or, Result, Ok, Err, if◌then◌else◌}
 use Rattle.std.proofs.Common.{reverse}
-use Rattle.spm_json.specs.Names.{same_name}
 use Rattle.url.specs.Host.{host_text}
 use Rattle.url.specs.Parser.{Parsed, parse_url}
 use Rattle.url.specs.Parts.{Parts, has_credentials, has_host, host_or_empty}
@@ -11,7 +11,7 @@ use Rattle.spm_api.specs.declared.base.BaseFault.{BaseFault}
 use Rattle.spm_api.specs.declared.base.BaseFault.TheVariants.{BadUrl, Memory}
 
 abbrev pub is_base : Parts → Bool
-is_base url = same_name url.scheme (codes "http") && has_host url && not (has_credentials url) && not (is_some url.query) && not (is_some url.fragment)
+is_base url = bytes_eq url.scheme (codes "http") && has_host url && not (has_credentials url) && not (is_some url.query) && not (is_some url.fragment)
 
 -- the bytes from the first that is no slash
 abbrev pub behind_slashes : List ℕ → List ℕ

@@ -1,20 +1,23 @@
 -- The bodies of a registry's replies (SE-0292 and the registry's service specification; problems by RFC 7807), read as far as a
 -- resolution needs them.
-use Rattle.std.specs.Prelude.{ℕ, ◌&&◌, List, [], ◌∷◌, codes, Bool, false, nat_eq, Option, Some, None, option_and_then, Ok, Err, if◌then◌else◌}
+use Rattle.std.specs.Str.{bytes_eq}
+use Rattle.std.specs.Prelude.{◌≡◌, ◌≢◌, ℕ, ◌&&◌, List, [], ◌∷◌, All, codes, Bool, false, Option, Some, None, option_and_then, Ok, Err, if◌then◌else◌}
 use Rattle.std.specs.Cmp.Lexicographic.{slice_cmp}
-use Rattle.std.specs.List.{ends_with}
+use Rattle.std.specs.List.{Contains}
 use Rattle.std.specs.Ordering.{is_lt, nat_cmp}
-use Rattle.std.specs.Result.{result_ok}
 use Rattle.serde_json.specs.Data.{Data}
 use Rattle.serde_json.specs.Find.{as_str, get}
 use Rattle.spm_digest.specs.Digest.{sum_of}
 use Rattle.spm_ident.specs.Identity.{identity_of}
 use Rattle.spm_json.specs.Field.{field_of}
-use Rattle.spm_json.specs.Names.{same_name}
 use Rattle.spm_json.specs.Reading.{Reading, ◌>>=◌}
 use Rattle.spm_json.specs.Sequence.{items_of, members_of}
 use Rattle.spm_json.specs.Shape.{document_of, object_of, text_of, whole_of}
-use Rattle.spm_version.specs.Release.{Parts, release_of}
+use Rattle.spm_version.specs.Release.{Parts, ends_in_zip, release_of}
+
+-- the member of an object, read so
+abbrev pub member_reading : {A : Type 0} → (Data → Reading A) → List ℕ → Data → Reading A
+member_reading reading key d = object_of d >>= λ o. field_of reading key o
 
 -- ---- a list of releases
 
@@ -25,14 +28,14 @@ unless_problem None release = release
 -- the release of a member: none where the key is no version or ends in `.zip`, or the member has the key `problem`
 abbrev pub usable_release : List ℕ → Data → Option Parts
 usable_release key d =
-    if ends_with nat_eq key (codes ".zip") then None else unless_problem (get (codes "problem") d) (release_of key)
+    if ends_in_zip key then None else unless_problem (get (codes "problem") d) (release_of key)
 
 -- each member is an object
 abbrev pub listed_reading : List (Option Parts) → List ℕ → Data → Reading (Option Parts)
 listed_reading earlier key d = object_of d >>= λ o. Ok (usable_release key o)
 
 abbrev pub list_reading : Data → Reading (List (Option Parts))
-list_reading d = object_of d >>= λ o. field_of (members_of listed_reading) (codes "releases") o
+list_reading = member_reading (members_of listed_reading) (codes "releases")
 
 -- those that are there
 abbrev pub all_some : {A : Type 0} → List (Option A) → List A
@@ -48,7 +51,7 @@ pub record Resource : Type 0 where
   pub checksum : Option (List ℕ)
 
 abbrev pub is_text : List ℕ → Option (List ℕ) → Bool
-is_text wanted (Some text) = same_name text wanted
+is_text wanted (Some text) = bytes_eq text wanted
 is_text wanted None = false
 
 -- the text of a member
@@ -65,7 +68,7 @@ abbrev pub resource_reading : Data → Reading Resource
 resource_reading d = object_of d >>= λ o. Ok (resource_in o)
 
 abbrev pub resources_reading : Data → Reading (List Resource)
-resources_reading d = object_of d >>= λ o. field_of (items_of resource_reading) (codes "resources") o
+resources_reading = member_reading (items_of resource_reading) (codes "resources")
 
 abbrev pub or_later : Resource → Option (Option (List ℕ)) → Option (Option (List ℕ))
 or_later resource later = if resource.is_archive then option_and_then (λ sum. Some (Some sum)) resource.checksum else later
@@ -82,24 +85,22 @@ checksum_in (Err fault) = None
 -- ---- the identities of a URL
 
 abbrev pub identifiers_reading : Data → Reading (List (List ℕ))
-identifiers_reading d = object_of d >>= λ o. field_of (items_of text_of) (codes "identifiers") o
+identifiers_reading = member_reading (items_of text_of) (codes "identifiers")
 
+-- the lesser of an identity and the least so far
 abbrev pub lesser : List ℕ → Option (List ℕ) → List ℕ
 lesser identity None = identity
 lesser identity (Some other) = if is_lt (slice_cmp nat_cmp other identity) then other else identity
 
-abbrev pub with_identity : Option (List ℕ) → Option (List ℕ) → Option (List ℕ)
-with_identity None least = least
-with_identity (Some identity) least = Some (lesser identity least)
+-- the least of the texts that are identities: one of them, and none is below it
+pub record IsLeast (texts : List (List ℕ)) (least : List ℕ) : Type 0 where
+  pub named : (text : List ℕ) × Contains texts text × (identity_of text ≡ Ok least)
+  pub lowest : All (λ text. (other : List ℕ) → identity_of text ≡ Ok other → is_lt (slice_cmp nat_cmp other least) ≡ false) texts
 
--- the least of the texts that are identities, after this one
-abbrev pub least_after : Option (List ℕ) → List (List ℕ) → Option (List ℕ)
-least_after least [] = least
-least_after least (text ∷ texts) = least_after (with_identity (result_ok (identity_of text)) least) texts
-
-abbrev pub identity_in : Reading (List (List ℕ)) → Option (Option (List ℕ))
-identity_in (Ok texts) = Some (least_after None texts)
-identity_in (Err fault) = None
+-- nothing where none of the texts is an identity
+abbrev pub IsLeastIdentity : List (List ℕ) → Option (List ℕ) → Type 0
+IsLeastIdentity texts (Some least) = IsLeast texts least
+IsLeastIdentity texts None = All (λ text. (identity : List ℕ) → identity_of text ≢ Ok identity) texts
 
 -- ---- the bodies
 
@@ -110,8 +111,9 @@ releases_of body = whole_of list_reading body
 abbrev pub checksum_of : List ℕ → Option (Option (List ℕ))
 checksum_of body = checksum_in (whole_of resources_reading body)
 
-abbrev pub identifier_of : List ℕ → Option (Option (List ℕ))
-identifier_of body = identity_in (whole_of identifiers_reading body)
+-- the texts that a body names as identities
+abbrev pub identifiers_of : List ℕ → Reading (List (List ℕ))
+identifiers_of body = whole_of identifiers_reading body
 
 abbrev pub detail_in : Reading Data → Option (List ℕ)
 detail_in (Ok d) = text_at (codes "detail") d

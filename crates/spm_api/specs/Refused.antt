@@ -1,5 +1,5 @@
 -- Which replies a resolution can't use, what a catalogue answers, and which catalogues come from a book.
-use Rattle.std.specs.Prelude.{◌≡◌, ℕ, ◌==◌, ◌&&◌, ◌||◌, List, length, Bool, true, false, not, nat_lt, Option, Some, None, IfSome, IsSome, is_ok, is_some, option_and_then, Ok, Err, if◌then◌else◌}
+use Rattle.std.specs.Prelude.{◌≡◌, ℕ, ◌==◌, ◌&&◌, ◌||◌, List, length, Bool, true, false, not, nat_lt, Option, Some, None, IfSome, IsSome, is_ok, option_and_then, Ok, Err, if◌then◌else◌}
 use Rattle.std.specs.FinMap as map
 use Rattle.spm_json.specs.Reading.{Reading}
 use Rattle.spm_key.specs.Catalogue.{Catalogue}
@@ -10,7 +10,7 @@ use Rattle.spm_key.specs.declared.reply.Body.TheVariants.{Whole, Sum, Garbled, T
 use Rattle.spm_key.specs.declared.reply.Reply.{Reply}
 use Rattle.spm_outside.specs.Book.{Pages, response_of}
 use Rattle.spm_version.specs.Release.{Parts}
-use Rattle.spm_api.specs.Bodies.{all_some, identifier_of, problem_of, releases_of}
+use Rattle.spm_api.specs.Bodies.{all_some, identifiers_of, problem_of, releases_of}
 use Rattle.spm_api.specs.Endpoint.{IsReply, request_for}
 use Rattle.spm_api.specs.declared.base.Base.{Base}
 
@@ -28,13 +28,17 @@ abbrev pub lists_releases : Option (List ℕ) → Bool
 lists_releases (Some bytes) = is_ok (releases_of bytes)
 lists_releases None = false
 
+abbrev pub names_identities : Option (List ℕ) → Bool
+names_identities (Some bytes) = is_ok (identifiers_of bytes)
+names_identities None = false
+
 -- a list or identifiers have to be of their form
 abbrev pub has_form : Key → Option (List ℕ) → Bool
 has_form (key.List identity) bytes = lists_releases bytes
 has_form (key.Manifest identity release) bytes = true
 has_form (key.Release identity release) bytes = true
 has_form (key.Archive identity release) bytes = true
-has_form (key.Identifiers url) bytes = is_some (option_and_then identifier_of bytes)
+has_form (key.Identifiers url) bytes = names_identities bytes
 
 abbrev pub refusal_by : Key → ℕ → Option (List ℕ) → Option Refusal
 refusal_by asked status bytes =

@@ -9,8 +9,8 @@ use std::error::Error;
 use std::fmt;
 use url::{ParseError, Url};
 
-/// The port of HTTP, where a base says none.
-const HTTP_PORT: u16 = 80;
+// The port of HTTP, which is meant where none is said.
+pub(crate) const HTTP_PORT: u16 = 80;
 
 /// Where a registry is: its host and port, and the path before that of each key.
 #[derive(Debug, Drop)]
@@ -39,14 +39,6 @@ impl fmt::Display for BaseFault {
 }
 
 impl Error for BaseFault {}
-
-impl From<NoMemory> for BaseFault {
-    ghost from_gives = { λ _ e. e ≡ Memory };
-
-    fn from(_e: NoMemory) -> BaseFault {
-        BaseFault::Memory
-    }
-}
 
 impl From<AllocError> for BaseFault {
     ghost from_gives = { λ _ e. e ≡ Memory };

@@ -1,20 +1,36 @@
 ghost use Rattle.std.specs.Prelude.{◌≡◌, IfErr, IfOk, None, Ok, codes, option_and_then, option_map};
-ghost use Rattle.std.specs.Result.{result_ok};
 ghost use Rattle.serde_json.specs.View.{view};
 ghost use Rattle.spm_digest.specs.Digest.{sum_of};
-ghost use Rattle.spm_ident.specs.Identity.{identity_of};
 ghost use Rattle.spm_json.specs.Object.{data_of};
 ghost use Rattle.spm_json.specs.Reading.{Gives};
 ghost use Rattle.spm_json.specs.Sequence.{members_of};
-ghost use Rattle.spm_api.specs.Bodies.{all_some, archive_checksum, checksum_of, identifier_of, identifiers_reading, is_text, least_after, lesser, list_reading, listed_reading, problem_of, releases_of, resource_in, resource_reading, resources_reading, text_at, usable_release};
-ghost use Rattle.spm_api.specs.Reads.{Reads, ReadsList, refusal_of};
+ghost use Rattle.spm_json.specs.Shape.{whole_of};
+ghost use Rattle.spm_api.specs.Bodies.{
+  IsLeastIdentity,
+  all_some,
+  archive_checksum,
+  checksum_of,
+  identifiers_of,
+  is_text,
+  lesser,
+  listed_reading,
+  member_reading,
+  problem_of,
+  releases_of,
+  resource_in,
+  resource_reading,
+  text_at,
+  usable_release,
+};
+ghost use Rattle.spm_api.specs.Reads.{Reads, ReadsIdentifiers, ReadsList, refusal_of};
 ghost use Rattle.spm_api.specs.declared.bodies.BodyFault.TheVariants.{Memory};
 
+use crate::texts::{identity_of, release_of};
 use serde_json::Value;
 use spm_digest::read_hex;
-use spm_ident::{IdentFault, Identity};
-use spm_json::{FromJson, FromMember, Object, ReadFault, members, read_document, read_whole};
-use spm_version::{Items, NoMemory, Release, Text, VersionFault};
+use spm_ident::Identity;
+use spm_json::{FromJson, FromMember, Object, ReadFault, members, read_document};
+use spm_version::{Items, NoMemory, Release, Text, ends_in_zip};
 use std::alloc::{AllocError, AllocFailed, Global};
 use std::error::Error;
 use std::fmt;
@@ -46,14 +62,6 @@ impl fmt::Display for BodyFault {
 
 impl Error for BodyFault {}
 
-impl From<NoMemory> for BodyFault {
-    ghost from_gives = { λ _ e. e ≡ Memory };
-
-    fn from(_e: NoMemory) -> BodyFault {
-        BodyFault::Memory
-    }
-}
-
 impl From<AllocError> for BodyFault {
     ghost from_gives = { λ _ e. e ≡ Memory };
 
@@ -81,13 +89,34 @@ impl<T: Drop> From<AllocFailed<T>> for BodyFault {
     }
 }
 
+// The member of an object.
+fn member_of<T: FromJson + Drop>(alloc: Global, value: &Value, key: &str) -> Result<T, ReadFault>
+    ensures { Gives result (member_reading T.reading key.now (view value.now)) }
+{
+    let object = Object::of(alloc, value)?;
+    object.field(key)
+}
+
+// The member of the object that a body is.
+fn read_member<T: FromJson + Drop>(alloc: Global, body: &[u8], key: &str) -> Result<T, ReadFault>
+    ensures { Gives result (whole_of (member_reading T.reading key.now) body.now) }
+{
+    match read_document(alloc, body) {
+        Ok(document) => match member_of(alloc, &document, key) {
+            Ok(read) => Ok(read),
+            Err(fault) => Err(fault.of_document(alloc)),
+        },
+        Err(fault) => Err(fault.of_document(alloc)),
+    }
+}
+
 // A member of a list of releases: its release, if that is usable.
 #[derive(Drop)]
-struct Listed {
+struct ListedRelease {
     release: Option<Release>,
 }
 
-impl Model for Listed {
+impl Model for ListedRelease {
     ghost use Rattle.std.specs.Prelude.{Option};
     ghost use Rattle.spm_version.specs.Release.{Parts};
 
@@ -96,18 +125,18 @@ impl Model for Listed {
     ghost view = { λ listed. listed.release };
 }
 
-impl FromMember for Listed {
+impl FromMember for ListedRelease {
     ghost reading = { listed_reading };
 
     fn from_member(
         alloc: Global,
-        _earlier: &[Listed],
+        _earlier: &[ListedRelease],
         key: &str,
         value: &Value,
-    ) -> Result<Listed, ReadFault> {
+    ) -> Result<ListedRelease, ReadFault> {
         let object = Object::of(alloc, value)?;
         let release = usable_release(alloc, key, &object)?;
-        Ok(Listed { release })
+        Ok(ListedRelease { release })
     }
 }
 
@@ -115,29 +144,31 @@ impl FromMember for Listed {
 fn usable_release(alloc: Global, key: &str, object: &Object) -> Result<Option<Release>, ReadFault>
     ensures { Gives result (Ok (usable_release key.now (data_of object.now))) }
 {
-    if key.as_bytes().ends_with(b".zip") || object.get("problem").is_some() {
+    if ends_in_zip(key) || object.get("problem").is_some() {
         return Ok(None);
     }
-    match Release::parse(alloc, key) {
-        Ok(release) => Ok(Some(release)),
-        Err(VersionFault::BadVersion) => Ok(None),
-        Err(VersionFault::Memory) => Err(ReadFault::Memory),
-    }
+    Ok(release_of(alloc, key)?)
 }
 
 // The member `releases`: its members, each of which is an object.
 #[derive(Drop)]
 struct Listing {
-    listed: Items<Listed>,
+    listed: Items<ListedRelease>,
 }
 
 impl Model for Listing {
     ghost use Rattle.std.specs.Prelude.{List, Option};
+    ghost use Rattle.std.specs.List.{IsDistinct};
     ghost use Rattle.spm_version.specs.Release.{Parts};
+    ghost use Rattle.spm_version.specs.ReleaseLaws.{release_eq};
+    ghost use Rattle.spm_api.specs.Bodies.{all_some};
 
     ghost Value = { List (Option Parts) };
 
     ghost view = { λ listing. listing.listed };
+
+    // Each release stands once, as its text does among the keys.
+    ghost invariant = { λ listing. IsDistinct release_eq (all_some listing.listed) };
 }
 
 impl FromJson for Listing {
@@ -149,33 +180,8 @@ impl FromJson for Listing {
     }
 }
 
-// The body of a list.
-#[derive(Drop)]
-struct ListBody {
-    listing: Listing,
-}
-
-impl Model for ListBody {
-    ghost use Rattle.std.specs.Prelude.{List, Option};
-    ghost use Rattle.spm_version.specs.Release.{Parts};
-
-    ghost Value = { List (Option Parts) };
-
-    ghost view = { λ body. body.listing };
-}
-
-impl FromJson for ListBody {
-    ghost reading = { list_reading };
-
-    fn from_json(alloc: Global, value: &Value) -> Result<ListBody, ReadFault> {
-        let object = Object::of(alloc, value)?;
-        let listing = object.field("releases")?;
-        Ok(ListBody { listing })
-    }
-}
-
 // The releases that are usable, in the order in which they stand.
-fn usable(alloc: Global, listed: Items<Listed>) -> Result<Vec<Release>, BodyFault>
+fn usable(alloc: Global, listed: Items<ListedRelease>) -> Result<Vec<Release>, BodyFault>
     ensures ok { IfOk result (λ releases. releases.items ≡ all_some listed) }
     ensures err { IfErr result (λ fault. fault ≡ Memory) }
 {
@@ -188,7 +194,7 @@ fn usable(alloc: Global, listed: Items<Listed>) -> Result<Vec<Release>, BodyFaul
     Ok(releases)
 }
 
-/// Reads the body of a list: its usable releases in ascending order. A key that is no version, or ends in `.zip`, is passed over,
+/// Reads the body of a list: its usable releases in ascending order, each once. A key that is no version, or ends in `.zip`, is passed over,
 /// and so is a release with a problem.
 ///
 /// # Errors
@@ -197,8 +203,8 @@ fn usable(alloc: Global, listed: Items<Listed>) -> Result<Vec<Release>, BodyFaul
 pub fn read_list(alloc: Global, body: &[u8]) -> Result<Items<Release>, BodyFault>
     ensures { ReadsList result (releases_of body.now) }
 {
-    let read: ListBody = read_whole(alloc, body)?;
-    let mut releases = usable(alloc, read.listing.listed)?;
+    let listing: Listing = read_member(alloc, body, "releases")?;
+    let mut releases = usable(alloc, listing.listed)?;
     if releases.len() > MAX_RELEASES {
         return Err(BodyFault::TooMany);
     }
@@ -208,12 +214,12 @@ pub fn read_list(alloc: Global, body: &[u8]) -> Result<Items<Release>, BodyFault
 
 // What is said of a resource of a release.
 #[derive(Drop)]
-struct Archive {
+struct ReleaseResource {
     is_archive: bool,
     checksum: Option<[u8; 32]>,
 }
 
-impl Model for Archive {
+impl Model for ReleaseResource {
     ghost use Rattle.spm_api.specs.Bodies.{Resource};
 
     ghost Value = { Resource };
@@ -221,10 +227,10 @@ impl Model for Archive {
     ghost view = { λ archive. record { is_archive = archive.is_archive; checksum = archive.checksum } };
 }
 
-impl FromJson for Archive {
+impl FromJson for ReleaseResource {
     ghost reading = { resource_reading };
 
-    fn from_json(alloc: Global, value: &Value) -> Result<Archive, ReadFault> {
+    fn from_json(alloc: Global, value: &Value) -> Result<ReleaseResource, ReadFault> {
         let object = Object::of(alloc, value)?;
         Ok(resource(&object))
     }
@@ -254,43 +260,19 @@ fn checksum_at(object: &Object) -> Option<[u8; 32]>
     read_hex(text_at(object, "checksum")?)
 }
 
-fn resource(object: &Object) -> Archive
+// What an object says of a resource.
+fn resource(object: &Object) -> ReleaseResource
     ensures { result ≡ resource_in (data_of object.now) }
 {
-    Archive {
+    ReleaseResource {
         is_archive: is_text(object, "name", "source-archive")
             && is_text(object, "type", "application/zip"),
         checksum: checksum_at(object),
     }
 }
 
-// The body of a release.
-#[derive(Drop)]
-struct ReleaseBody {
-    resources: Items<Archive>,
-}
-
-impl Model for ReleaseBody {
-    ghost use Rattle.std.specs.Prelude.{List};
-    ghost use Rattle.spm_api.specs.Bodies.{Resource};
-
-    ghost Value = { List Resource };
-
-    ghost view = { λ body. body.resources };
-}
-
-impl FromJson for ReleaseBody {
-    ghost reading = { resources_reading };
-
-    fn from_json(alloc: Global, value: &Value) -> Result<ReleaseBody, ReadFault> {
-        let object = Object::of(alloc, value)?;
-        let resources = object.field("resources")?;
-        Ok(ReleaseBody { resources })
-    }
-}
-
 // The checksum of the first source archive.
-fn first_checksum(resources: &[Archive]) -> Result<Option<[u8; 32]>, BodyFault>
+fn first_checksum(resources: &[ReleaseResource]) -> Result<Option<[u8; 32]>, BodyFault>
     ensures { Reads result (archive_checksum resources.now) }
 {
     for resource in resources {
@@ -312,43 +294,8 @@ fn first_checksum(resources: &[Archive]) -> Result<Option<[u8; 32]>, BodyFault>
 pub fn read_release(alloc: Global, body: &[u8]) -> Result<Option<[u8; 32]>, BodyFault>
     ensures { Reads result (checksum_of body.now) }
 {
-    let read: ReleaseBody = read_whole(alloc, body)?;
-    first_checksum(read.resources.as_slice())
-}
-
-// The body of a look-up.
-#[derive(Drop)]
-struct IdentifiersBody {
-    texts: Items<Text>,
-}
-
-impl Model for IdentifiersBody {
-    ghost use Rattle.std.specs.Prelude.{List, ℕ};
-
-    ghost Value = { List (List ℕ) };
-
-    ghost view = { λ body. body.texts };
-}
-
-impl FromJson for IdentifiersBody {
-    ghost reading = { identifiers_reading };
-
-    fn from_json(alloc: Global, value: &Value) -> Result<IdentifiersBody, ReadFault> {
-        let object = Object::of(alloc, value)?;
-        let texts = object.field("identifiers")?;
-        Ok(IdentifiersBody { texts })
-    }
-}
-
-// The identity that a text is, if it is one.
-fn identity_of(alloc: Global, text: &str) -> Result<Option<Identity>, NoMemory>
-    ensures { IfOk result (λ identity. identity ≡ result_ok (identity_of text.now)) }
-{
-    match Identity::parse(alloc, text) {
-        Ok(identity) => Ok(Some(identity)),
-        Err(IdentFault::Memory) => Err(NoMemory),
-        Err(_) => Ok(None),
-    }
+    let resources: Items<ReleaseResource> = read_member(alloc, body, "resources")?;
+    first_checksum(resources.as_slice())
 }
 
 // The lesser of two identities.
@@ -363,7 +310,7 @@ fn lesser(identity: Identity, least: Option<Identity>) -> Identity
 
 // The least of the texts that are identities.
 fn least(alloc: Global, texts: &[Text]) -> Result<Option<Identity>, NoMemory>
-    ensures { IfOk result (λ least. least ≡ least_after None texts.now) }
+    ensures { IfOk result (λ least. IsLeastIdentity texts.now least) }
 {
     let mut least = None;
     for text in texts {
@@ -381,10 +328,10 @@ fn least(alloc: Global, texts: &[Text]) -> Result<Option<Identity>, NoMemory>
 ///
 /// `Unreadable` exactly where the body isn't of its form, and `Memory`.
 pub fn read_identifiers(alloc: Global, body: &[u8]) -> Result<Option<Identity>, BodyFault>
-    ensures { Reads result (identifier_of body.now) }
+    ensures { ReadsIdentifiers result (identifiers_of body.now) }
 {
-    let read: IdentifiersBody = read_whole(alloc, body)?;
-    let least = least(alloc, read.texts.as_slice())?;
+    let texts: Items<Text> = read_member(alloc, body, "identifiers")?;
+    let least = least(alloc, texts.as_slice())?;
     Ok(least)
 }
 

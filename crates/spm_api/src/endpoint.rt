@@ -3,29 +3,32 @@ ghost use Rattle.std.specs.FinMap as map;
 ghost use Rattle.spm_key.specs.Catalogue.{Catalogue};
 ghost use Rattle.spm_api.specs.Refused.{ComesFrom};
 ghost use Rattle.spm_outside.specs.Book.{response_of};
-ghost use Rattle.spm_outside.specs.Exchange.{CallsAfterExchange, RestAfterExchange};
-ghost use Rattle.spm_outside.specs.Link.{LinkFaultsAfter};
-ghost use Rattle.spm_api.specs.Endpoint.{IsReply, accept_for, archive_reply, content_reply, heard_reply, host_field, limit_for, request_for};
+ghost use Rattle.spm_outside.specs.Exchange.{CallsAfterExchange, RestAfterExchange, TakenAfterExchange};
+ghost use Rattle.spm_outside.specs.Faults.{FaultsAfter};
+ghost use Rattle.spm_api.specs.Endpoint.{
+  IsReply,
+  accept_for,
+  archive_reply,
+  content_reply,
+  heard_reply,
+  host_field,
+  limit_for,
+  request_for,
+};
 
-use crate::base::Base;
+use crate::base::{Base, HTTP_PORT};
 use spm_digest::sum;
-use spm_http::{Heard, read_response, request};
+use spm_http::{Heard, MAX_HEAD, read_response, request};
 use spm_key::{Body, Key, Reply};
 use spm_outside::{Authority, Link, LinkFault, exchange};
 use spm_version::{Bytes, NoMemory};
 use std::alloc::Global;
-
-/// The port of HTTP.
-const HTTP_PORT: u16 = 80;
 
 /// How many bytes a JSON body may have.
 const MAX_JSON: u64 = 1_048_576;
 
 /// How many bytes an archive may have.
 const MAX_ARCHIVE: u64 = 67_108_864;
-
-/// How many bytes a response may have besides twice its body's limit.
-const MAX_BESIDES: u64 = 65_536;
 
 // The host, with the port unless it is 80.
 fn host_field(alloc: Global, to: &Authority) -> Result<String, NoMemory>
@@ -149,20 +152,21 @@ pub fn fetch<L: Link>(
     key: &Key,
 ) -> Result<Reply, LinkFault>
     // Where the link tells its book, the reply is that of the book's response.
-    ensures reply { IfOk result (λ reply. IfSome (L.book link.old)
+    ensures reply { IfOk result (λ reply. IfSome (L.state link.old).book
         (λ pages. IsReply key.now (response_of pages base.now.to (request_for base.now key.now)) reply)) }
     // A catalogue that comes from the book still does with this reply.
-    ensures catalogue { IfOk result (λ reply. IfSome (L.book link.old) (λ pages. (catalogue : Catalogue)
+    ensures catalogue { IfOk result (λ reply. IfSome (L.state link.old).book (λ pages. (catalogue : Catalogue)
         → ComesFrom catalogue pages base.now → ComesFrom (map.insert catalogue key.now reply) pages base.now)) }
     // Of the response at most twice the limit and 65,537 bytes are read.
-    ensures rest { RestAfterExchange result (L.book link.old) base.now.to (request_for base.now key.now) (2 * limit_for key.now + 65537)
-        (L.rest link.old) (L.rest link.new) }
-    ensures book { L.book link.new ≡ L.book link.old }
-    ensures calls { CallsAfterExchange result base.now.to (request_for base.now key.now) (L.calls link.old) (L.calls link.new) }
-    ensures faults { LinkFaultsAfter result (L.faults link.old) (L.faults link.new) }
+    ensures rest { RestAfterExchange result (L.state link.old).book base.now.to (request_for base.now key.now) (2 * limit_for key.now + 65537)
+        (L.state link.old).rest (L.state link.new).rest }
+    ensures taken { TakenAfterExchange result (2 * limit_for key.now + 65537) (L.state link.old).taken (L.state link.new).taken }
+    ensures book { (L.state link.new).book ≡ (L.state link.old).book }
+    ensures calls { CallsAfterExchange result base.now.to (request_for base.now key.now) (L.state link.old).calls (L.state link.new).calls }
+    ensures faults { FaultsAfter result (L.state link.old).faults (L.state link.new).faults }
 {
     let request = request_of(alloc, base, key)?;
-    let limit = 2 * limit_for(key) + MAX_BESIDES + 1;
+    let limit = 2 * limit_for(key) + MAX_HEAD as u64 + 1;
     let response = exchange(alloc, link, &base.to, request.as_slice(), limit)?;
     Ok(reply_of(alloc, key, response.as_slice())?)
 }

@@ -2,7 +2,16 @@ ghost use Rattle.std.specs.Prelude.{◌≡◌, IfOk, not, reverse};
 ghost use Rattle.std.specs.List.{find};
 ghost use Rattle.std.specs.Option.{option_copied, option_map, option_to_list};
 ghost use Rattle.spm_api.specs.Bodies.{releases_of};
-ghost use Rattle.spm_api.specs.Guess.{Guesses, GuessesOfList, content_of, is_looked_up, keys_of, manifest_keys, need_keys, target_keys};
+ghost use Rattle.spm_api.specs.Guess.{
+  Guesses,
+  GuessesOfList,
+  content_of,
+  is_looked_up,
+  keys_of,
+  manifest_keys,
+  need_keys,
+  target_keys,
+};
 ghost use Rattle.spm_manifest.specs.Profile.{manifest_of};
 ghost use Rattle.spm_version.specs.Release.{is_prerelease};
 
@@ -15,12 +24,6 @@ use std::alloc::Global;
 
 /// The status of a reply whose body is what was asked for (RFC 9110, section 15.3.1).
 const STATUS_OK: u16 = 200;
-
-fn copy_of(alloc: Global, identity: &Identity) -> Result<Identity, NoMemory>
-    ensures { IfOk result (λ copy. copy ≡ identity.now) }
-{
-    identity.copy(alloc).map_err(|_| NoMemory)
-}
 
 // Whether a registry is asked for the versions of what is required.
 fn is_looked_up(requirement: &Requirement) -> bool
@@ -37,7 +40,7 @@ fn target_key(alloc: Global, target: &Target) -> Result<Option<Key>, NoMemory>
     ensures { IfOk result (λ key. option_to_list key ≡ target_keys target.now) }
 {
     match target {
-        Target::Registry(identity) => Ok(Some(Key::List(copy_of(alloc, identity)?))),
+        Target::Registry(identity) => Ok(Some(Key::List(identity.copy(alloc)?))),
         Target::Url(url) => Ok(Some(Key::Identifiers(url.copy(alloc)?))),
         Target::Local(_) => Ok(None),
     }
@@ -105,7 +108,7 @@ fn guess_list(alloc: Global, identity: &Identity, body: &[u8]) -> Result<Items<K
     let Some(newest) = last_stable(releases.as_slice()) else {
         return Ok(keys);
     };
-    let identity = copy_of(alloc, identity)?;
+    let identity = identity.copy(alloc)?;
     keys.push(Key::Manifest(identity, newest.copy(alloc)?))?;
     Ok(keys)
 }

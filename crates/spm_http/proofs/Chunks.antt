@@ -13,6 +13,7 @@ pub record Goes (status limit : ℕ) (body bytes : List ℕ) (heard : Heard) : T
   pub same : chunks_within steps status limit body bytes ≡ heard
 
 module _ (status limit : ℕ) (body bytes : List ℕ) (heard : Heard) where
+  -- with no line left the chunks are garbled, whatever the steps
   no_step : (steps : ℕ) → chunks_within steps status limit body bytes ≡ heard → size_line bytes ≡ None → heard ≡ Garbled
   no_step zero same none = sym same
   no_step (suc steps) same none = sym (rw none at same)
@@ -29,6 +30,7 @@ pub record Opened (status limit : ℕ) (body bytes : List ℕ) (heard : Heard) (
       else if size == 0 then Whole status body
       else go_on (chunks_within steps status limit) body size behind (behind_chunk size behind)) ≡ heard
 
+-- behind a chunk fewer bytes are left
 chunk_length : (size : ℕ) (behind rest : List ℕ) → behind_chunk size behind ≡ Some rest → length rest < length behind
 chunk_length size behind rest h = elim (cases_Bool (nat_lt (length behind) size)) [
   | inl short ↦ let none = rw short at h in cc
@@ -36,20 +38,25 @@ chunk_length size behind rest h = elim (cases_Bool (nat_lt (length behind) size)
 ]
 
 module _ (status limit : ℕ) (body bytes : List ℕ) (heard : Heard) (size : ℕ) (behind : List ℕ) (line : size_line bytes ≡ Some (size, behind)) where
+  -- what a line opens, with these steps left
   opened_at : (steps : ℕ) → length bytes ≤ steps → chunks_within steps status limit body bytes ≡ heard
       → Opened status limit body bytes heard size behind
   opened_at zero enough same = absurd (omega (arith, enough, line_length bytes size behind line))
   opened_at (suc steps) enough same = record { steps = steps; enough = enough; same = rw line at same }
 
+  -- what a line opens
   opened : Goes status limit body bytes heard → Opened status limit body bytes heard size behind
   opened goes = opened_at goes.steps goes.enough goes.same
 
+  -- a chunk that exceeds the limit
   pub too_long_chunk : Goes status limit body bytes heard → nat_lt limit (length body + size) ≡ true → heard ≡ TooLong
   too_long_chunk goes long = sym (rw long at (opened goes).same)
 
+  -- the last chunk ends the body
   pub last_chunk : Goes status limit body bytes heard → nat_lt limit (length body + size) ≡ false → (size == 0) ≡ true → heard ≡ Whole status body
   last_chunk goes fits last = sym (rw (fits, last) at (opened goes).same)
 
+  -- a chunk without its end is garbled
   pub cut_chunk : Goes status limit body bytes heard → nat_lt limit (length body + size) ≡ false → (size == 0) ≡ false
       → behind_chunk size behind ≡ None → heard ≡ Garbled
   cut_chunk goes fits more none = sym (rw (fits, more, none) at (opened goes).same)

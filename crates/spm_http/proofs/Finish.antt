@@ -17,14 +17,17 @@ pub record Finishes (text : List ℕ) : Type 0 where
   pub reads : ReadsSection (text ++ next ∷ more) fields last []
   pub tried : ((next ∷ more) ++ rest ≡ codes "\n\n") ⊎ ((next ∷ more) ++ rest ≡ codes ":\n\n")
 
+-- what is so of all bytes is so of those at the front
 All-front : (test : ℕ → Bool) (front back all : List ℕ) → AllPass test all → all ≡ front ++ back → AllPass test front
 All-front test front back all each e =
     subst (AllPass test) (ap (λ (t : List ℕ). take (length front) t) e ∙ take_at front back (length front) refl)
     (All-take (λ b. test b ≡ true) (length front) all each)
 
+-- nothing of a line has begun: a line feed ends the section
 at_line : Finishes []
 at_line = record { fields = []; last = lf; next = 10; more = []; rest = 10 ∷ []; reads = (All-nil _, refl); tried = inl refl }
 
+-- a return has begun the end of the section
 after_return : Finishes (13 ∷ [])
 after_return = record { fields = []; last = crlf; next = 10; more = []; rest = 10 ∷ []; reads = (All-nil _, refl); tried = inl refl }
 
@@ -44,6 +47,7 @@ in_value field text is e = record {
   tried = inl refl;
 }
 
+-- the text, a colon and an end of a line are a field
 in_name : (field : Field) (text : List ℕ) → IsField field → text ++ 58 ∷ 10 ∷ [] ≡ print_field field → Finishes text
 in_name field text is e = record {
   fields = field ∷ [];
@@ -105,6 +109,7 @@ begun_end crlf (b ∷ []) next between e = inr (cc e, refl)
 begun_end crlf (b ∷ c ∷ text) next between e = absurd (omega (arith, ap length e, length-append text (next ∷ between)))
 begun_end lf (b ∷ text) next between e = absurd (omega (arith, ap length e, length-append text (next ∷ between)))
 
+-- a name, its colon, the value and a return
 value_and_return : (name raw text : List ℕ) → IsToken name → AllPass is_value_byte raw → text ≡ name ++ 58 ∷ (raw ++ 13 ∷ [])
     → Finishes text
 value_and_return name raw text is all e =
@@ -117,6 +122,7 @@ value_and_return name raw text is all e =
 -- bytes that end in a field line, or behind it
 module _ (field : Field) (is : IsField field) (text : List ℕ) (next : ℕ) (more behind : List ℕ)
     (whole : (rest : List ℕ) → text ≡ print_field field ++ rest → behind ≡ rest ++ next ∷ more → Finishes text) where
+  -- the bytes end in the end of the line, or behind it
   at_end : (rest : List ℕ) → text ≡ field.name ++ 58 ∷ (field.raw ++ rest) → Meets rest (next ∷ more) (print_end field.end) behind
       → Finishes text
   at_end rest e (inl m) =
@@ -131,6 +137,7 @@ module _ (field : Field) (is : IsField field) (text : List ℕ) (next : ℕ) (mo
           value_and_return field.name field.raw text is.name is.raw
           (e ∙ ap (λ (t : List ℕ). field.name ++ 58 ∷ (field.raw ++ t)) return.0)
 
+  -- they end in the value, or behind it
   at_value : (rest : List ℕ) → text ≡ field.name ++ 58 ∷ rest → Meets rest (next ∷ more) field.raw (print_end field.end ++ behind)
       → Finishes text
   at_value rest e (inl m) =
@@ -138,6 +145,7 @@ module _ (field : Field) (is : IsField field) (text : List ℕ) (next : ℕ) (mo
   at_value rest e (inr m) =
       begun_value field.name rest text is.name (All-front is_value_byte rest (m.0 ∷ m.1) field.raw is.raw m.2) e
 
+  -- they end before the colon, or behind it
   at_colon : (rest : List ℕ) → text ≡ field.name ++ rest → 58 ∷ (field.raw ++ (print_end field.end ++ behind)) ≡ rest ++ next ∷ more
       → Finishes text
   at_colon [] e colon = subst Finishes (sym (e ∙ append-nil field.name)) (name_only field.name is.name)
@@ -147,10 +155,12 @@ module _ (field : Field) (is : IsField field) (text : List ℕ) (next : ℕ) (mo
       at_value rest (e ∙ ap (λ (b : ℕ). field.name ++ b ∷ rest) same)
       (meets rest (next ∷ more) field.raw (print_end field.end ++ behind) (sym tail))
 
+  -- they end in the name, or behind it
   at_name : Meets text (next ∷ more) field.name (58 ∷ (field.raw ++ (print_end field.end ++ behind))) → Finishes text
   at_name (inl m) = at_colon m.0 m.1 m.2
   at_name (inr m) = begun_name text m.0 m.1 field.name is.name.1 m.2
 
+  -- wherever in the line they end
   in_line : text ++ next ∷ more ≡ print_field field ++ behind → Finishes text
   in_line e = at_name (meets text (next ∷ more) field.name _ (e ∙ print_field-append field behind))
 

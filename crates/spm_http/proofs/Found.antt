@@ -20,6 +20,7 @@ use Rattle.httparse.proofs.GrammarLemmas.{request_unique}
 use Rattle.spm_http.specs.Request.{accept_in}
 use Rattle.spm_http.specs.Parts.{accept_at, HasFewFields}
 
+-- what is accepted is told by the spans of the fields
 pub accept_is : (buf : List ℕ) (spans : List HeaderSpan) (fields : List Field)
     → map (header_bytes buf) spans ≡ map name_and_value fields → accept_at buf spans ≡ accept_in fields
 accept_is buf [] [] e = refl
@@ -45,6 +46,7 @@ fields_fit text headers spans h within at =
       within.section.count_fits,
     )
 
+-- a head that has room for its fields has at most 64
 pub few_fields : (text : List ℕ) (headers : List HeaderSpan) (r : Result (Status RequestSpans) Error) → length headers ≡ 64
     → IfComplete r (IsRequestWithin text headers) → IfComplete r (IsRequestOf text headers)
     → OnPartial r (HasNoRequest text) → OnInvalid r (NeverHasRequest text) → r ≢ Err TooManyHeaders → HasFewFields text
@@ -74,6 +76,7 @@ token_is_ascii : (b : ℕ) → is_token_byte b ≡ true → b < 128
 unfolding is_token_byte
 token_is_ascii b token = grind (arith, nat_tests)
 
+-- a token is UTF-8
 pub IsUtf8-token : (bytes : List ℕ) → IsToken bytes → IsUtf8 bytes
 IsUtf8-token bytes is =
     IsUtf8-from_ascii bytes (IsAscii-from_all bytes

@@ -29,12 +29,14 @@ no_head bytes none head rest has =
           length-append (m.0 ∷ m.1) rest,
         )
 
+-- bytes that have more fields than there is room for have no head
 pub overflows_no_head : (bytes : List ℕ) → RequestOverflows 64 (take 65536 bytes) → HasNoHead bytes
 overflows_no_head bytes over head rest has =
     let many = over (drop 65536 bytes) head rest
     (subst (λ (t : List ℕ). ReadsRequest t head rest) (sym (take-append-drop 65536 bytes)) has.reads) in
     omega (arith, many, has.fields)
 
+-- and more bytes make them none
 pub overflows_no_prefix : (bytes : List ℕ) → RequestOverflows 64 (take 65536 bytes) → take 65536 bytes ≡ bytes
     → IsProperPrefix bytes → ⊥
 overflows_no_prefix bytes over e prefix =

@@ -37,12 +37,14 @@ starts h rest is = (
 abbrev pub IsPlain : List ℕ → Type 0
 IsPlain text = All (λ b. is_token_byte b ≡ false) text
 
+-- a name has a byte that stands in names
 no_token : (name rest : List ℕ) → IsToken name → IsPlain (name ++ rest) → ⊥
 no_token [] rest is plain = absurd (omega (arith, is.0))
 no_token (b ∷ name) rest is plain =
     both_ways (is_token_byte b) (All-head (λ v. is_token_byte v ≡ false) b (name ++ rest) plain)
     (All-head (λ v. is_token_byte v ≡ true) b name is.1)
 
+-- the first byte of a name stands in names
 begins_token : (name rest text : List ℕ) (byte : ℕ) → IsToken name → name ++ rest ≡ byte ∷ text → is_token_byte byte ≡ true
 begins_token [] rest text byte is e = absurd (omega (arith, is.0))
 begins_token (b ∷ name) rest text byte is e =
@@ -58,6 +60,7 @@ not_ended lf byte text rest token e =
     let same : byte ≡ 10 = cc e in
     true≢false (token_is_no_newline 10 (subst (λ (v : ℕ). is_token_byte v ≡ true) same token))
 
+-- fields before a begun name are more with it
 has_more : (k : List Field) (fields more : List Field) (last : LineEnd) (byte : ℕ) (text : List ℕ) → k ≡ fields ++ more
     → is_token_byte byte ≡ true → Section (more, last) (byte ∷ text) [] → length fields < length k
 has_more k fields [] last byte text e token reads = absurd (not_ended last byte text [] token reads.1)
@@ -80,17 +83,21 @@ more_fields h k fields text byte behind is all token e reads =
 
 -- ---- the 65th field
 
+-- a field to read where there is none
 abbrev no_field : Field
 no_field = record { name = []; raw = []; end = lf }
 
+-- what stands before the line feed of a line's end
 abbrev before_feed : LineEnd → List ℕ
 before_feed crlf = 13 ∷ []
 before_feed lf = []
 
+-- an end of a line ends in a line feed
 before_feed_is : (last : LineEnd) → print_end last ≡ before_feed last ++ 10 ∷ []
 before_feed_is crlf = refl
 before_feed_is lf = refl
 
+-- more than 64 fields are 64, one, and the others
 fields_split : (fields : List Field) → 64 < length fields → fields ≡ take 64 fields ++ get_or fields 64 no_field ∷ drop 65 fields
 fields_split fields over =
     sym (take-append-drop 64 fields) ∙ ap (λ (l : List Field). take 64 fields ++ l) (drop_more fields 64 no_field over)
@@ -110,6 +117,7 @@ lines_split before field after last =
 module _ (bytes end : List ℕ) (plain : IsPlain end) (prefix : IsProperPrefix bytes) (h : RequestHead) (is : IsRequestHead h)
     (before : List Field) (field : Field) (after : List ℕ) (all : All IsField before) (one : IsField field)
     (many : length before ≡ 64) where
+  -- the bytes go on behind the first 64 fields
   within : (tail : List ℕ) → bytes ≡ (start_bytes h ++ flat_map print_field before) ++ tail
       → print_field field ++ after ≡ tail ++ end → ⊥
   within [] e behind =
@@ -125,6 +133,7 @@ module _ (bytes end : List ℕ) (plain : IsPlain end) (prefix : IsProperPrefix b
       let more = more_fields h prefix.head before _ byte _ is all token text prefix.reads in
       omega (arith, more, many, prefix.fields)
 
+  -- they don't end before
   cut : Meets bytes end (start_bytes h ++ flat_map print_field before) (print_field field ++ after) → ⊥
   cut (inl m) = within m.0 m.1 m.2
   cut (inr m) =
@@ -163,18 +172,22 @@ full bytes end plain (front, rest, split, h, reads, over) prefix =
         ∙ lines_split before field (drop 65 h.fields) h.last)
         ∙ sym (append_assoc (start_bytes h) _ (10 ∷ [])))).0
 
+-- no name has a line feed
 feed_is_plain : is_token_byte 10 ≡ false
 unfolding is_token_byte
 feed_is_plain = refl
 
+-- two line feeds begin no name
 feeds_are_plain : IsPlain (codes "\n\n")
 feeds_are_plain =
     All-cons (λ b. is_token_byte b ≡ false) 10 (10 ∷ []) feed_is_plain
     (All-cons (λ b. is_token_byte b ≡ false) 10 [] feed_is_plain (All-nil _))
 
+-- where two line feeds make too many fields, no more bytes make a head
 pub full_in_value : (bytes : List ℕ) → RequestExceeds 64 (bytes ++ codes "\n\n") → IsProperPrefix bytes → ⊥
 full_in_value bytes over prefix = full bytes (codes "\n\n") feeds_are_plain over prefix
 
+-- and so with a colon before them
 pub full_in_name : (bytes : List ℕ) → RequestExceeds 64 (bytes ++ codes ":\n\n") → IsProperPrefix bytes → ⊥
 full_in_name bytes over prefix =
     full bytes (codes ":\n\n") (All-cons (λ b. is_token_byte b ≡ false) 58 (10 ∷ 10 ∷ []) colon_ends_token feeds_are_plain) over prefix

@@ -13,6 +13,7 @@ use Rattle.spm_http.proofs.Finish.{Finishes, finish}
 abbrev pub start_bytes : RequestHead → List ℕ
 start_bytes h = print_blank h.blank ++ (h.method ++ 32 ∷ (h.target ++ 32 ∷ (print_version h.minor ++ print_end h.line_end)))
 
+-- a head is its start and its section
 pub print_head : (h : RequestHead) (rest : List ℕ) → print_request h ++ rest ≡ start_bytes h ++ (print_section h.fields h.last ++ rest)
 print_head h rest =
     print_request-append h rest
@@ -26,6 +27,7 @@ print_head h rest =
 abbrev pub with_section : RequestHead → List Field → LineEnd → RequestHead
 with_section h fields last = record h { fields = fields; last = last }
 
+-- a start and a section are a head
 pub reads_with : (h : RequestHead) (fields : List Field) (last : LineEnd) (text : List ℕ) → IsRequestHead h → All IsField fields
     → text ≡ start_bytes h ++ print_section fields last → ReadsRequest text (with_section h fields last) []
 reads_with h fields last text is all e = (
@@ -75,6 +77,7 @@ prefix bytes next more h is few few_in_name (inl m) =
     either fields last x xs rest reads (inl e) = tries fields last x xs rest (codes "\n\n") reads e few
     either fields last x xs rest reads (inr e) = tries fields last x xs rest (codes ":\n\n") reads e few_in_name
 
+-- bytes that are no head yet are told as unfinished rightly
 pub unfinished_is : (bytes : List ℕ) → HasNoRequest bytes → MayBecomeRequest bytes
     → HasFewFields (bytes ++ codes "\n\n") → HasFewFields (bytes ++ codes ":\n\n")
     → IsProperPrefix bytes ⊎ EndsInTarget bytes

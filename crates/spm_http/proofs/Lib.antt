@@ -9,3 +9,4 @@ pub mod Chunks
 pub mod ResponseHeads
 pub mod Lengths
 pub mod SizeLines
+pub mod OneAnswer

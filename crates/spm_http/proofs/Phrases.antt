@@ -44,12 +44,14 @@ whole status kind count body phrase = codes "HTTP/1.1 " ++ (status ++ (codes " "
     ++ (codes "\r\nContent-Version: 1\r\nContent-Type: " ++ (kind ++ (codes "\r\nContent-Length: " ++ (count
     ++ (codes "\r\nConnection: close\r\n\r\n" ++ body))))))))
 
+-- the lines and the body are grouped to the right
 regroup : (status phrase kind count body : List ℕ)
     → (codes "HTTP/1.1 " ++ (status ++ (codes " " ++ (phrase ++ (codes "\r\nContent-Version: 1\r\nContent-Type: "
     ++ (kind ++ (codes "\r\nContent-Length: " ++ (count ++ codes "\r\nConnection: close\r\n\r\n")))))))) ++ body
     ≡ whole status kind count body phrase
 regroup status phrase kind count body = simp append_assoc
 
+-- the lines and the body are the response
 pub lines_and_body : (status : ℕ) (phrase kind body : List ℕ) → phrase ≡ phrase_or_none (reason_phrase status)
     → response_lines status phrase kind (length body) ++ body ≡ response_text status kind body
 lines_and_body status phrase kind body e =

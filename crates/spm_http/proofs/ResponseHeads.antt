@@ -11,14 +11,16 @@ use Rattle.spm_http.specs.Response.{HasNoResponse, HasResponse, Hears, IsHeardIn
 use Rattle.spm_http.specs.Named.{heard_by, values_in}
 use Rattle.spm_http.specs.declared.response_head.Heard.{Heard}
 use Rattle.spm_http.specs.declared.response_head.Heard.TheVariants.{Garbled}
-use Rattle.spm_version.specs.declared.memory.NoMemory.{NoMemory}
+use Rattle.std.specs.declared.alloc.AllocError.{AllocError}
 
 -- ---- what is heard depends on the names and the values of the fields alone
 
+-- the values of fields are those of their pairs
 values_of_pairs : (name : List ℕ) (fields : List Field) → values_of name fields ≡ values_in name (map name_and_value fields)
 values_of_pairs name [] = refl
 values_of_pairs name (field ∷ fields) = rw (values_of_pairs name fields) refl
 
+-- what is heard by the pairs is heard of the head
 heard_by_pairs : (limit : ℕ) (head : ResponseHead) (rest : List ℕ)
     → heard_by limit (status_code head) (map name_and_value head.fields) rest ≡ heard_of limit head rest
 heard_by_pairs limit head rest =
@@ -26,6 +28,7 @@ heard_by_pairs limit head rest =
 
 -- ---- a head in the bytes is one in the first 65,536
 
+-- a head within the limit stands in the front
 head_in_front : (bytes : List ℕ) (head : ResponseHead) (rest : List ℕ) → HasResponse bytes head rest
     → ReadsResponse (take 65536 bytes) head (take (65536 - length (print_response head)) rest)
 head_in_front bytes head rest has =
@@ -33,9 +36,11 @@ head_in_front bytes head rest has =
     let room : length printed + (65536 - length printed) ≡ 65536 = omega (arith, has.fits) in
     (has.reads.0, ap (take 65536) has.reads.1 ∙ ap (λ n. take n (printed ++ rest)) (sym room) ∙ take-append-add printed rest (65536 - length printed))
 
+-- a front without a head has none behind it
 pub no_head : (bytes : List ℕ) → grammar.HasNoResponse (take 65536 bytes) → HasNoResponse bytes
 no_head bytes none head rest has = none head _ (head_in_front bytes head rest has)
 
+-- nor has one whose fields have no room
 pub no_room : (bytes : List ℕ) → ResponseOverflows 64 (take 65536 bytes) → HasNoResponse bytes
 no_room bytes over head rest has =
     let front_rest = take (65536 - length (print_response head)) rest in
@@ -44,6 +49,7 @@ no_room bytes over head rest has =
 
 -- ---- a head that is read
 
+-- the head of the front is that of the bytes
 head_read : (bytes : List ℕ) (fields : List HeaderSpan) (spans : ResponseSpans) (head : ResponseHead)
     → IsResponseAt (take 65536 bytes) fields spans head → length fields ≡ 64 → HasResponse bytes head (drop spans.len bytes)
 head_read bytes fields spans head at room =
@@ -78,7 +84,7 @@ heard_behind limit bytes fields spans head heard at room by = record {
 -- ---- the answer of the whole
 
 -- bytes that aren't too long are heard by the spans of their head
-pub hears_behind : (result : Result Heard NoMemory) (limit : ℕ) (bytes : List ℕ) (fields : List HeaderSpan) (spans : ResponseSpans) (head : ResponseHead)
+pub hears_behind : (result : Result Heard AllocError) (limit : ℕ) (bytes : List ℕ) (fields : List HeaderSpan) (spans : ResponseSpans) (head : ResponseHead)
     → nat_lt (2 * limit + 65536) (length bytes) ≡ false
     → IsResponseAt (take 65536 bytes) fields spans head → length fields ≡ 64
     → IfOk result (λ heard. heard ≡ heard_by limit spans.code (map (header_bytes (take 65536 bytes)) (take spans.headers fields)) (drop spans.len bytes))

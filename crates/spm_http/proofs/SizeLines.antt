@@ -31,6 +31,7 @@ run_cut test run text rest h =
     let long = run_length test run rest h.0 h.2 in
     rw h.1 (rw long (take_at run rest (length run) refl, drop_at run rest (length run) refl))
 
+-- behind the extension stands the end of the line
 extension_cut : (e : Option (List ℕ)) (text rest : List ℕ) → Extension e text rest → behind_end (behind_extension text) ≡ Some rest
 extension_cut None text rest h = rw h.1 refl
 extension_cut (Some said) text rest h =
@@ -68,6 +69,7 @@ line_read bytes len size l h =
 
 -- ---- what is cut off is read
 
+-- the bytes at the front pass the test
 passes : (test : ℕ → Bool) (text : List ℕ) → AllPass test (take (prefix_len test text) text)
 passes test [] = All-nil (λ v. test v ≡ true)
 passes test (b ∷ text) = elim (cases_Bool (test b)) [
@@ -77,11 +79,13 @@ passes test (b ∷ text) = elim (cases_Bool (test b)) [
   | inr off ↦ rw off (All-nil (λ v. test v ≡ true))
 ]
 
+-- where an end is cut off, it stood there
 end_is : (text rest : List ℕ) → behind_end text ≡ Some rest → text ≡ 13 ∷ 10 ∷ rest
 end_is [] rest h = cc
 end_is (b ∷ []) rest h = cc
 end_is (b ∷ next ∷ text) rest h = grind (arith, nat_tests, h)
 
+-- where the end behind an extension is cut off, the extension is one
 extension_is : (text rest : List ℕ) → behind_end (behind_extension text) ≡ Some rest
     → (e : Option (List ℕ)) × IsExtension e × (text ≡ print_extension e ++ (13 ∷ 10 ∷ rest))
 extension_is [] rest h = cc
@@ -97,6 +101,7 @@ extension_is (b ∷ text) rest h = elim (cases_Bool (b == 59)) [
   | inr off ↦ (None, tt, end_is (b ∷ text) rest (rw off at h))
 ]
 
+-- a line, and what follows it
 print-append : (l : ChunkLine) (rest : List ℕ) → print_chunk_line l ++ rest
     ≡ l.digits ++ (l.pad ++ (print_extension l.extension ++ (13 ∷ 10 ∷ rest)))
 unfolding print_chunk_line
@@ -133,6 +138,7 @@ line_in_front bytes l rest h short none =
     none l (take (4096 - length printed) rest)
     (h.0, ap (take 4096) h.1 ∙ ap (λ n. take n (printed ++ rest)) (sym room) ∙ take-append-add printed rest (4096 - length printed))
 
+-- a front without a line has none behind it
 pub no_line : (bytes : List ℕ) → HasNoChunkLine (take 4096 bytes) → size_line bytes ≡ None
 no_line bytes none = by (behind_end (behind_extension (behind_pad bytes))) refl
   where
@@ -147,14 +153,17 @@ no_line bytes none = by (behind_end (behind_extension (behind_pad bytes))) refl
       | inr some ↦ rw some refl
     ]
 
+-- nor has one that never will
 pub never_line : (bytes : List ℕ) → NeverHasChunkLine (take 4096 bytes) → size_line bytes ≡ None
 never_line bytes never = no_line bytes (λ l rest h. never [] l rest (rw append-nil h))
 
 -- ---- a line takes some of the bytes
 
+-- behind an end fewer bytes are left
 pub end_length : (text rest : List ℕ) → behind_end text ≡ Some rest → length rest < length text
 end_length text rest h = omega (arith, ap length (end_is text rest h))
 
+-- behind an extension no more bytes are left
 extension_length : (text : List ℕ) → length (behind_extension text) ≤ length text
 extension_length [] = omega arith
 extension_length (b ∷ text) = elim (cases_Bool (b == 59)) [
@@ -162,6 +171,7 @@ extension_length (b ∷ text) = elim (cases_Bool (b == 59)) [
   | inr off ↦ rw off (omega arith)
 ]
 
+-- a line has its end
 line_end : (bytes digits : List ℕ) (end : Option (List ℕ)) (size : ℕ) (rest : List ℕ) → with_size bytes digits end ≡ Some (size, rest) → end ≡ Some rest
 line_end bytes digits None size rest h = cc
 line_end bytes digits (Some found) size rest h = elim (cases_Bool (has_size digits && nat_le (length bytes - length found) 4096)) [
@@ -172,6 +182,7 @@ line_end bytes digits (Some found) size rest h = elim (cases_Bool (has_size digi
   | inr some ↦ let same = rw some at h in cc
 ]
 
+-- behind a line fewer bytes are left
 pub line_length : (bytes : List ℕ) (size : ℕ) (rest : List ℕ) → size_line bytes ≡ Some (size, rest) → length rest < length bytes
 line_length bytes size rest h =
     let padded = behind is_ascii_hexdigit bytes in

@@ -1,7 +1,7 @@
 -- Reading a response (HTTP/1.1, RFC 9112) with a limit on its body: what is heard is a function of its head and of what follows.
-use Rattle.std.specs.Prelude.{◌≡◌, ℕ, ◌+◌, ◌*◌, ◌≤◌, ◌⊎◌, ◌==◌, ◌&&◌, ◌||◌, List, [], ◌∷◌, length, take, codes, Bool, true, false, nat_eq, nat_le, nat_lt, Result, Ok, Err, if◌then◌else◌}
+use Rattle.std.specs.Str.{bytes_eq}
+use Rattle.std.specs.Prelude.{◌≡◌, ℕ, ◌+◌, ◌*◌, ◌≤◌, ◌⊎◌, ◌==◌, ◌&&◌, ◌||◌, List, [], ◌∷◌, length, take, codes, Bool, true, false, nat_le, nat_lt, Result, Ok, Err, if◌then◌else◌}
 use Rattle.std.specs.Char.{is_ascii_digit}
-use Rattle.std.specs.Cmp.Lexicographic.{pointwise}
 use Rattle.std.specs.List.{list_all}
 use Rattle.std.specs.Str.{str_eq_ignore_ascii_case}
 use Rattle.std.specs.Str.Parse.{digits_value}
@@ -9,7 +9,7 @@ use Rattle.httparse.specs.Grammar.{Field, ReadsResponse, ResponseHead, field_val
 use Rattle.spm_http.specs.Chunked.{chunked_body}
 use Rattle.spm_http.specs.declared.response_head.Heard.{Heard}
 use Rattle.spm_http.specs.declared.response_head.Heard.TheVariants.{Whole, Garbled, TooLong}
-use Rattle.spm_version.specs.declared.memory.NoMemory.{NoMemory}
+use Rattle.std.specs.declared.alloc.AllocError.{AllocError}
 
 -- a head, with what follows it, stands at the front of the bytes: at most 64 fields, within the first 65,536 bytes
 pub record HasResponse (bytes : List ℕ) (head : ResponseHead) (rest : List ℕ) : Type 0 where
@@ -45,7 +45,7 @@ body_to_end status limit rest = if nat_lt limit (length rest) then TooLong else 
 abbrev pub by_lengths : ℕ → ℕ → List (List ℕ) → List ℕ → Heard
 by_lengths status limit [] rest = body_to_end status limit rest
 by_lengths status limit (said ∷ others) rest =
-    if is_length said && list_all (pointwise nat_eq said) others then body_of_length status limit (digits_value 10 said) rest else Garbled
+    if is_length said && list_all (bytes_eq said) others then body_of_length status limit (digits_value 10 said) rest else Garbled
 
 abbrev pub by_encodings : ℕ → ℕ → List (List ℕ) → List (List ℕ) → List ℕ → Heard
 by_encodings status limit [] lengths rest = by_lengths status limit lengths rest
@@ -76,6 +76,6 @@ IsHeardIn true limit bytes heard = heard ≡ TooLong
 IsHeardIn false limit bytes heard = IsHeardOf limit bytes heard ⊎ (HasNoResponse bytes × (heard ≡ Garbled))
 
 -- more than twice the limit and 65,536 bytes are too long, whatever they are
-abbrev pub Hears : Result Heard NoMemory → ℕ → List ℕ → Type 0
+abbrev pub Hears : Result Heard AllocError → ℕ → List ℕ → Type 0
 Hears (Ok heard) limit bytes = IsHeardIn (nat_lt (2 * limit + 65536) (length bytes)) limit bytes heard
 Hears (Err no_memory) limit bytes = Unit {0}

@@ -2,6 +2,7 @@
 ghost use Rattle.std.specs.Prelude.{◌≡◌, take, option_map, IfSome, IfOk};
 ghost use Rattle.spm_http.specs.Chunked.{behind_chunk, behind_end, chunked_body, size_line};
 
+use crate::limits::front_of;
 use crate::response_head::Heard;
 use httparse::{Status, parse_chunk_size};
 use spm_version::{Bytes, NoMemory};
@@ -9,17 +10,6 @@ use std::alloc::Global;
 
 // A line before a chunk has at most so many bytes.
 const MAX_LINE: usize = 4096;
-
-// So many bytes at the front, or all of them where there are fewer.
-pub fn front_of(bytes: &[u8], most: usize) -> &[u8]
-    ensures { result.now ≡ take most bytes.now }
-{
-    if bytes.len() > most {
-        &bytes[..most]
-    } else {
-        bytes
-    }
-}
 
 // The size that the line at the front says, and what stands behind that line.
 fn read_size_line(bytes: &[u8]) -> Option<(u64, &[u8])>

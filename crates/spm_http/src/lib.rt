@@ -3,7 +3,8 @@
 //! [`request`] and [`response`] give the bytes of `request_text` and `response_text` (`specs/Writing.antt`). [`read_request`] reads the
 //! head of a request: `ReadsHead` of `specs/Request.antt` says which answer comes, over `httparse`'s grammar of heads.
 //! [`read_response`] reads a response, with a limit on its body: `Hears` of `specs/Response.antt` says what it answers, over the same
-//! grammar and that of the lines before chunks.
+//! grammar and that of the lines before chunks. Both leave one answer, as [`a_request_is_one_head`] and
+//! [`a_response_is_heard_one_way`] say.
 //!
 //! The proof of the writing is that of its `format!` and, for a response, that the lines and then the body are the whole, and that
 //! a number that is no status has no phrase (`proofs/Phrases.antt`).
@@ -35,11 +36,15 @@
 #![tactic(auto)]
 
 mod chunked;
+mod laws;
+mod limits;
 mod named;
 mod request_head;
 mod response_head;
 mod writing;
 
+pub use laws::{a_request_is_one_head, a_response_is_heard_one_way};
+pub use limits::MAX_HEAD;
 pub use request_head::{HttpFault, RequestHead, read_request};
 pub use response_head::{Heard, read_response};
 pub use writing::{request, response};

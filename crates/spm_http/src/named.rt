@@ -1,6 +1,6 @@
 // The fields of a head, as spans of its bytes, and what their values say of the body.
-ghost use Rattle.std.specs.Prelude.{◌≡◌, length, map, All, option_map, IfSome, IfOk, Some, None, if◌then◌else◌, codes, nat_eq};
-ghost use Rattle.std.specs.Cmp.Lexicographic.{pointwise};
+ghost use Rattle.std.specs.Str.{bytes_eq};
+ghost use Rattle.std.specs.Prelude.{◌≡◌, length, map, All, option_map, IfSome, IfOk, Some, None, if◌then◌else◌, codes};
 ghost use Rattle.std.specs.List.{list_all};
 ghost use Rattle.std.specs.Str.{str_eq_ignore_ascii_case};
 ghost use Rattle.std.specs.Str.Parse.{digits_value};
@@ -63,7 +63,7 @@ fn next_value<'b>(
 // Whether each value with the name is this one.
 fn all_are(head: &[u8], fields: &[HeaderSpan], name: &[u8], value: &[u8]) -> bool
     requires within { All (IsHeaderWithin (length head.now)) fields.now }
-    ensures { result ≡ list_all (pointwise nat_eq value.now) (values_in name.now (map (header_bytes head.now) fields.now)) }
+    ensures { result ≡ list_all (bytes_eq value.now) (values_in name.now (map (header_bytes head.now) fields.now)) }
 {
     for field in fields {
         if is_same(name_of(head, field), name) && value != value_of(head, field) {

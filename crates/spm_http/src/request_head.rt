@@ -6,18 +6,13 @@ ghost use Rattle.spm_http.specs.Request.{ReadsHead, IsProperPrefix, head_view};
 ghost use Rattle.spm_http.specs.Parts.{accept_at, HasFewFields};
 ghost use Rattle.spm_http.specs.declared.request_head.HttpFault.TheVariants.{Memory};
 
+use crate::limits::{MAX_FIELDS, MAX_HEAD, front_of};
 use httparse::spans::{EMPTY_HEADER_SPAN, HeaderSpan, RequestSpans, parse_request};
 use httparse::{Error as ParseError, Status};
 use spm_version::{Bytes, NoMemory, Text};
-use std::alloc::Global;
+use std::alloc::{AllocError, Global};
 use std::error::Error;
 use std::fmt;
-
-/// How many bytes a head may have.
-pub(crate) const MAX_HEAD: usize = 65536;
-
-/// How many fields a head may have.
-pub(crate) const MAX_FIELDS: usize = 64;
 
 /// The head of a request (RFC 9112, section 3).
 #[derive(Debug, Drop)]
@@ -55,10 +50,10 @@ impl fmt::Display for HttpFault {
 
 impl Error for HttpFault {}
 
-impl From<NoMemory> for HttpFault {
+impl From<AllocError> for HttpFault {
     ghost from_gives = { λ _ e. e ≡ Memory };
 
-    fn from(_e: NoMemory) -> HttpFault {
+    fn from(_e: AllocError) -> HttpFault {
         HttpFault::Memory
     }
 }
@@ -93,26 +88,12 @@ impl RequestHead {
 pub fn read_request(alloc: Global, bytes: &[u8]) -> Result<RequestHead, HttpFault>
     ensures { ReadsHead result bytes.now }
 {
-    let front = front_of(bytes);
+    let front = front_of(bytes, MAX_HEAD);
     let mut fields = [EMPTY_HEADER_SPAN; MAX_FIELDS];
     match parse_request(front, &mut fields) {
-        Ok(Status::Complete(spans)) => match head_of(alloc, front, &fields, spans) {
-            Ok(head) => Ok(head),
-            Err(_) => Err(HttpFault::Memory),
-        },
+        Ok(Status::Complete(spans)) => Ok(head_of(alloc, front, &fields, spans)?),
         Ok(Status::Partial) => Err(unfinished(alloc, bytes)),
         Err(_) => Err(HttpFault::Bad),
-    }
-}
-
-// The bytes in which a head must end.
-fn front_of(bytes: &[u8]) -> &[u8]
-    ensures { result.now ≡ take 65536 bytes.now }
-{
-    if bytes.len() > MAX_HEAD {
-        &bytes[..MAX_HEAD]
-    } else {
-        bytes
     }
 }
 

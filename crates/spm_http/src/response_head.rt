@@ -1,9 +1,8 @@
 ghost use Rattle.std.specs.Prelude.{◌≡◌, ◌+◌, ◌*◌, IfOk, length, nat_lt};
 ghost use Rattle.spm_http.specs.Response.{Hears};
 
-use crate::chunked::front_of;
+use crate::limits::{MAX_FIELDS, MAX_HEAD, front_of};
 use crate::named::read_behind;
-use crate::request_head::{MAX_FIELDS, MAX_HEAD};
 use httparse::Status;
 use httparse::spans::{EMPTY_HEADER_SPAN, parse_response};
 use spm_version::{Bytes, NoMemory};
@@ -44,7 +43,7 @@ impl Heard {
 fn is_too_long(bytes: &[u8], limit: u64) -> bool
     ensures { result ≡ nat_lt (2 * limit + 65536) (length bytes.now) }
 {
-    2 * u128::from(limit) + 65536 < bytes.len() as u128
+    2 * u128::from(limit) + (MAX_HEAD as u128) < bytes.len() as u128
 }
 
 /// Reads a response (RFC 9112) whose body may have so many bytes. It is too long where all its bytes are more than twice that

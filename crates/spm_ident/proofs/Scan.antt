@@ -15,23 +15,28 @@ abbrev goes_on_parts : List (List ℕ) → Bool
 goes_on_parts [] = true
 goes_on_parts (part ∷ parts) = list_all is_ascii_alphanumeric part && list_all is_word parts
 
+-- conjunctions may be grouped in either way
 and_assoc : (x y z : Bool) → ((x && y) && z) ≡ (x && (y && z))
 and_assoc true y z = refl
 and_assoc false y z = refl
 
+-- a truth more changes nothing
 and_true : (x : Bool) → ((x && true) && true) ≡ (x && true)
 and_true true = refl
 and_true false = refl
 
+-- a first truth may be left out
 and_of_true : (t x y z : Bool) → t ≡ true → ((t && (x && y)) && z) ≡ (x && (y && z))
 and_of_true t x y z e = rw e (and_assoc x y z)
 
+-- all parts are words where a byte goes onto the first of them
 list_all-onto_first : (b : ℕ) (parts : List (List ℕ)) → list_all is_word (onto_first b parts) ≡ (is_ascii_alphanumeric b && goes_on_parts parts)
 list_all-onto_first b [] = and_true (is_ascii_alphanumeric b)
 list_all-onto_first b (part ∷ parts) =
     let some : 0 < length (b ∷ part) = omega arith in
     and_of_true (nat_lt 0 (length (b ∷ part))) (is_ascii_alphanumeric b) (list_all is_ascii_alphanumeric part) (list_all is_word parts) (lt-ltb 0 (length (b ∷ part)) some)
 
+-- parts go on where a byte goes onto the first of them
 goes_on_parts-onto_first : (b : ℕ) (parts : List (List ℕ)) → goes_on_parts (onto_first b parts) ≡ (is_ascii_alphanumeric b && goes_on_parts parts)
 goes_on_parts-onto_first b [] = and_true (is_ascii_alphanumeric b)
 goes_on_parts-onto_first b (part ∷ parts) =
@@ -42,10 +47,12 @@ begins_at : (q : Bool) (b : ℕ) (parts : List (List ℕ)) (begun going : Bool) 
 begins_at true b parts begun going e f = refl
 begins_at false b parts begun going e f = ap (λ x. is_ascii_alphanumeric b && x) f ∙ sym (list_all-onto_first b parts)
 
+-- one step of the pass
 goes_on_at : (q : Bool) (b : ℕ) (parts : List (List ℕ)) (begun going : Bool) → begun ≡ list_all is_word parts → going ≡ goes_on_parts parts → cond q (true && begun) (is_ascii_alphanumeric b && going) ≡ goes_on_parts (cond q ([] ∷ parts) (onto_first b parts))
 goes_on_at true b parts begun going e f = e
 goes_on_at false b parts begun going e f = ap (λ x. is_ascii_alphanumeric b && x) f ∙ sym (goes_on_parts-onto_first b parts)
 
+-- the pass, begun outside and inside a word
 goes_on_both : (p : ℕ → Bool) (text : List ℕ) → (goes_on p false text ≡ list_all is_word (slice_split p text)) × (goes_on p true text ≡ goes_on_parts (slice_split p text))
 goes_on_both p [] = (refl, refl)
 goes_on_both p (b ∷ bs) =
@@ -62,6 +69,7 @@ goes_on-map p f keeps same in_word [] = refl
 goes_on-map p f keeps same in_word (b ∷ bs) =
     rw (keeps b, same b, goes_on-map p f keeps same false bs, goes_on-map p f keeps same true bs)
 
+-- a map that keeps separators and letters keeps joined words
 pub is_joined-map : (p : ℕ → Bool) (f : ℕ → ℕ) → ((b : ℕ) → p (f b) ≡ p b) → ((b : ℕ) → is_ascii_alphanumeric (f b) ≡ is_ascii_alphanumeric b) → (text : List ℕ) → is_joined p (map f text) ≡ is_joined p text
 is_joined-map p f keeps same text =
     sym (goes_on_joined p (map f text)) ∙ goes_on-map p f keeps same false text ∙ goes_on_joined p text

@@ -16,6 +16,7 @@ enum Separator {
 }
 
 impl Separator {
+    // Whether the byte is one.
     fn matches(self, byte: u8) -> bool
         ensures { result ≡ is_separator self byte }
     {
@@ -26,8 +27,8 @@ impl Separator {
     }
 }
 
-/// Whether a text is words of ASCII letters and digits with one separator between each two, by one pass over
-/// its bytes.
+// Whether a text is words of ASCII letters and digits with one separator between each two, by one pass over
+// its bytes.
 #[tactic(auto, using(crate::proofs::Scan::goes_on_joined, std::proofs::lemmas::Grind::common_steps))]
 fn is_joined(separator: Separator, text: &[u8]) -> bool
     ensures { result ≡ is_joined (is_separator separator) text.now }

@@ -1,15 +1,16 @@
-ghost use Rattle.std.specs.Prelude.{◌≡◌, ◌≢◌, IfErr, IfOk, Some, nat_eq, refl};
+ghost use Rattle.std.specs.Str.{bytes_eq};
+ghost use Rattle.std.specs.Prelude.{◌≡◌, ◌≢◌, IfErr, IfOk, Some, refl};
 ghost use Rattle.std.specs.Ordering.{nat_cmp};
 ghost use Rattle.std.specs.Cmp.{partial_equiv_from_equiv};
-ghost use Rattle.std.specs.Cmp.Lexicographic.{pointwise, slice_cmp, nat_list_eq_equiv, nat_list_cmp_total, texts_ties, texts_po};
+ghost use Rattle.std.specs.Cmp.Lexicographic.{slice_cmp, nat_list_eq_equiv, nat_list_cmp_total, texts_ties, texts_po};
 ghost use Rattle.std.specs.Cmp.Rules.{hashing};
 ghost use Rattle.std.specs.Hash as fed;
 ghost use Rattle.std.proofs.Common.{rules};
 ghost use Rattle.spm_ident.specs.declared.identity.IdentFault.TheVariants.{Memory};
 ghost use Rattle.spm_ident.specs.Identity.{IsIdentity, identity_of, name_of, scope_of};
 
+use crate::NoMemory;
 use crate::grammar::{is_name, is_scope};
-use crate::memory::NoMemory;
 use std::alloc::{AllocError, Global};
 use std::cmp::Ordering;
 use std::error::Error;
@@ -45,14 +46,6 @@ impl fmt::Display for IdentFault {
 
 impl Error for IdentFault {}
 
-impl From<NoMemory> for IdentFault {
-    ghost from_gives = { λ _ e. e ≡ Memory };
-
-    fn from(_error: NoMemory) -> IdentFault {
-        IdentFault::Memory
-    }
-}
-
 impl From<AllocError> for IdentFault {
     ghost from_gives = { λ _ e. e ≡ Memory };
 
@@ -82,6 +75,10 @@ impl Model for Identity {
 
 impl Identity {
     /// Reads an identity in any ASCII case.
+    ///
+    /// # Errors
+    ///
+    /// The first of the faults of the text; and `Memory`, which no text that is refused gets.
     #[tactic(auto, using(crate::proofs::Dots::list_any_by_place))]
     pub fn parse(alloc: Global, text: &str) -> Result<Identity, IdentFault>
         ensures ok { IfOk result (λ identity. identity_of text.now ≡ Ok identity) }
@@ -124,6 +121,7 @@ impl Identity {
         self.parts().1
     }
 
+    // What stands around the dot.
     fn parts(&self) -> (&str, &str)
         ensures scope { result.0.now ≡ scope_of self.now }
         ensures name { result.1.now ≡ name_of self.now }
@@ -132,6 +130,10 @@ impl Identity {
     }
 
     /// A copy of the identity.
+    ///
+    /// # Errors
+    ///
+    /// `NoMemory` alone.
     pub fn copy(&self, alloc: Global) -> Result<Identity, NoMemory>
         ensures { IfOk result (λ i. i ≡ self.now) }
     {
@@ -150,7 +152,7 @@ impl fmt::Display for Identity {
 
 /// By the bytes of the text.
 impl PartialEq for Identity {
-    ghost eq = { pointwise nat_eq };
+    ghost eq = { bytes_eq };
 
     ghost laws = { partial_equiv_from_equiv nat_list_eq_equiv };
 

@@ -17,7 +17,8 @@
 
 mod grammar;
 mod identity;
-mod memory;
+mod shared;
 
 pub use identity::{IdentFault, Identity};
-pub use memory::NoMemory;
+/// There was no memory for what a call had to make: the one fault of what only allocates.
+pub use std::alloc::AllocError as NoMemory;

@@ -6,3 +6,5 @@ pub mod Object
 pub mod Sequence
 pub mod Value
 pub mod Names
+pub mod MembersCode
+pub mod Written

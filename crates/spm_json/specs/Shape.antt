@@ -1,6 +1,9 @@
 -- What an item has to be: an object, a list, a text, a number. An item of another shape is of the wrong
 -- kind. Objects have each key once, in byte order, the last value of a key that was written twice.
-use Rattle.std.specs.Prelude.{ℕ, List, [], ◌∷◌, length, nat_lt, Ok, if◌then◌else◌, option_and_then, option_map}
+use Rattle.std.specs.Prelude.{ℕ, List, [], ◌∷◌, length, nat_lt, Ok, IfSome, if◌then◌else◌, map, option_and_then, option_map}
+use Rattle.std.specs.Cmp.Lexicographic.{slice_cmp}
+use Rattle.std.specs.List.Sorted.{IsStrictlySortedBy}
+use Rattle.std.specs.Ordering.{nat_cmp}
 use Rattle.std.specs.Str.{is_utf8}
 use Rattle.serde_json.specs.Data.{Data, Items, no_items, item, Members, no_members, member}
 use Rattle.serde_json.specs.Find.{as_array, as_number, as_object, as_str, as_u64}
@@ -15,6 +18,10 @@ item_list (item d items) = d ∷ item_list items
 abbrev pub member_list : Members → List (List ℕ × Data)
 member_list no_members = []
 member_list (member key d members) = (key, d) ∷ member_list members
+
+-- each key of the object, if it is one, is below those after it by its bytes
+abbrev pub HasAscendingKeys : Data → Type 0
+HasAscendingKeys d = IfSome (as_object d) (λ members. IsStrictlySortedBy (slice_cmp nat_cmp) (map (λ m. m.0) (member_list members)))
 
 -- the document that the bytes spell (RFC 8259): UTF-8, and at most 127 levels of objects and lists
 abbrev pub document_of : List ℕ → Reading Data

@@ -10,7 +10,6 @@ use Rattle.spm_version.specs.declared.kind.Kind.TheVariants.{BadIdentity, BadTra
 use Rattle.spm_version.specs.declared.tools_version.ToolsVersion.{ToolsVersion}
 use Rattle.spm_json.specs.Field.{field_of}
 use Rattle.spm_json.specs.Reading.{Reading, fault_here, or_fault, ◌>>=◌}
-use Rattle.spm_json.specs.Sequence.{items_of}
 use Rattle.spm_json.specs.Shape.{text_of}
 use Rattle.spm_trait.specs.TraitName.{trait_name_of}
 
@@ -34,9 +33,6 @@ tools_reading d = text_of d >>= λ text. or_fault BadVersion (tools_of text)
 
 abbrev pub trait_reading : Data → Reading (List ℕ)
 trait_reading d = text_of d >>= λ text. or_fault BadTrait (result_ok (trait_name_of text))
-
-abbrev pub trait_names_reading : Data → Reading (List (List ℕ))
-trait_names_reading d = items_of trait_reading d
 
 -- ---- the version of a file's own format
 

@@ -1,4 +1,4 @@
-ghost use Rattle.std.specs.Prelude.{◌≡◌, ◌⊎◌, [], ◌∷◌, ◌++◌};
+ghost use Rattle.std.specs.Prelude.{◌≡◌, ◌⊎◌, [], ◌∷◌, ◌++◌, IfOk, IfSome};
 ghost use Rattle.spm_json.specs.declared.fault.ReadFault.TheVariants.{Memory};
 
 use spm_version::{Kind, NoMemory, Text};
@@ -26,14 +26,6 @@ impl fmt::Display for ReadFault {
 }
 
 impl Error for ReadFault {}
-
-impl From<NoMemory> for ReadFault {
-    ghost from_gives = { λ _ e. e ≡ Memory };
-
-    fn from(_e: NoMemory) -> ReadFault {
-        ReadFault::Memory
-    }
-}
 
 impl From<AllocError> for ReadFault {
     ghost from_gives = { λ _ e. e ≡ Memory };
@@ -66,12 +58,19 @@ impl ReadFault {
         }
     }
 
-    /// The fault, seen from the object whose member `key` has it.
-    pub fn under_key(self, alloc: Global, key: &str) -> ReadFault
-        ensures { (result ≡ moved key.now self) ⊎ (result ≡ Memory) }
+    /// The fault that the member `key` of the item has: it is of this kind, at its own place.
+    pub fn of_member(alloc: Global, kind: Kind, key: &str) -> ReadFault
+        ensures { (result ≡ moved key.now (At [] kind)) ⊎ (result ≡ Memory) }
+    {
+        ReadFault::here(alloc, kind).under_key(alloc, key)
+    }
+
+    // The fault, seen from the item around it, where this step leads to its own.
+    fn under<S: fmt::Display + Drop>(self, alloc: Global, step: S) -> ReadFault
+        ensures { IfSome (S.output step) (λ text. (result ≡ moved text self) ⊎ (result ≡ Memory)) }
     {
         match self {
-            ReadFault::At { place, kind } => match format!(in alloc; "/{key}{place}") {
+            ReadFault::At { place, kind } => match format!(in alloc; "/{step}{place}") {
                 Ok(path) => ReadFault::At {
                     place: Text::from_string(path),
                     kind,
@@ -82,20 +81,18 @@ impl ReadFault {
         }
     }
 
+    /// The fault, seen from the object whose member `key` has it.
+    pub fn under_key(self, alloc: Global, key: &str) -> ReadFault
+        ensures { (result ≡ moved key.now self) ⊎ (result ≡ Memory) }
+    {
+        self.under(alloc, key)
+    }
+
     /// The fault, seen from the list whose item at this place has it.
     pub fn under_index(self, alloc: Global, index: usize) -> ReadFault
         ensures { (result ≡ moved (decimal index) self) ⊎ (result ≡ Memory) }
     {
-        match self {
-            ReadFault::At { place, kind } => match format!(in alloc; "/{index}{place}") {
-                Ok(path) => ReadFault::At {
-                    place: Text::from_string(path),
-                    kind,
-                },
-                Err(_) => ReadFault::Memory,
-            },
-            ReadFault::Memory => ReadFault::Memory,
-        }
+        self.under(alloc, index)
     }
 
     /// The fault, seen from an object whose keys are foreign text: its place is the object's. It
@@ -121,6 +118,23 @@ impl ReadFault {
                 }
             }
             fault => fault,
+        }
+    }
+
+    /// A copy of the fault.
+    ///
+    /// # Errors
+    ///
+    /// `NoMemory` alone.
+    pub fn copy(&self, alloc: Global) -> Result<ReadFault, NoMemory>
+        ensures { IfOk result (λ copy. copy ≡ self.now) }
+    {
+        match self {
+            ReadFault::At { place, kind } => Ok(ReadFault::At {
+                place: place.copy(alloc)?,
+                kind: *kind,
+            }),
+            ReadFault::Memory => Ok(ReadFault::Memory),
         }
     }
 }

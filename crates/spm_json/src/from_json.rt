@@ -13,6 +13,10 @@ pub trait FromJson {
     ghost reading: { Data → Reading Self };
 
     /// Reads the item, or answers its first fault.
+    ///
+    /// # Errors
+    ///
+    /// The first fault in the reading order, with its place from this item; and `Memory`.
     fn from_json(alloc: Global, value: &Value) -> Result<Self, ReadFault>
     where
         Self: Sized,
@@ -25,6 +29,10 @@ pub trait FromMember {
     ghost reading: { List Self → List ℕ → Data → Reading Self };
 
     /// Reads the member, or answers its first fault.
+    ///
+    /// # Errors
+    ///
+    /// The first fault in the reading order, with its place from the value; and `Memory`.
     fn from_member(
         alloc: Global,
         earlier: &[Self],

@@ -1,5 +1,6 @@
-ghost use Rattle.std.specs.Prelude.{◌≡◌, ◌||◌, ℕ, List, IfOk, OnOk, not, false};
-ghost use Rattle.spm_json.specs.Names.{has_name, same_name};
+ghost use Rattle.std.specs.Str.{bytes_eq};
+ghost use Rattle.std.specs.Prelude.{◌≡◌, ◌||◌, ℕ, List, IfOk, OnErr, OnOk, not, false};
+ghost use Rattle.spm_json.specs.Names.{has_name};
 
 use spm_version::NoMemory;
 use std::alloc::Global;
@@ -28,10 +29,15 @@ impl Names {
         self.texts.contains(text)
     }
 
-    /// Meets the text, and answers whether it is new. After want of memory nothing was met.
+    /// Meets the text, and answers whether it is new.
+    ///
+    /// # Errors
+    ///
+    /// `NoMemory` alone, after which nothing was met.
     pub fn insert(&mut self, alloc: Global, text: &str) -> Result<bool, NoMemory>
         ensures new { IfOk result (λ is_new. is_new ≡ not (has_name self.old text.now)) }
-        ensures met { OnOk result ((other : List ℕ) → has_name self.new other ≡ (same_name text.now other || has_name self.old other)) }
+        ensures met { OnOk result ((other : List ℕ) → has_name self.new other ≡ (bytes_eq text.now other || has_name self.old other)) }
+        ensures err { OnErr result ((other : List ℕ) → has_name self.new other ≡ has_name self.old other) }
     {
         Ok(self.texts.insert(String::from_str(alloc, text)?)?)
     }

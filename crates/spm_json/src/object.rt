@@ -5,11 +5,16 @@ ghost use Rattle.spm_json.specs.Reading.{Gives, GivesBy, within};
 
 use crate::fault::ReadFault;
 use crate::from_json::FromJson;
+use crate::places::within;
 use serde_json::Value;
 use spm_version::Kind;
 use std::alloc::Global;
 
 /// Reads the member `key`, whose value this is.
+///
+/// # Errors
+///
+/// The first fault in the reading order, with its place from the object; and `Memory`.
 pub fn member_as<T: FromJson + Drop>(
     alloc: Global,
     key: &str,
@@ -17,10 +22,7 @@ pub fn member_as<T: FromJson + Drop>(
 ) -> Result<T, ReadFault>
     ensures { Gives result (within key.now (T.reading (view value.now))) }
 {
-    match T::from_json(alloc, value) {
-        Ok(x) => Ok(x),
-        Err(fault) => Err(fault.under_key(alloc, key)),
-    }
+    within(alloc, key, T::from_json(alloc, value))
 }
 
 /// An item that is an object.
@@ -36,6 +38,10 @@ impl<'v> Object<'v> {
     ghost use Rattle.spm_json.specs.Object.{data_of};
 
     /// The item as an object, or else the fault that it is of the wrong kind.
+    ///
+    /// # Errors
+    ///
+    /// `WrongKind`, at the item itself.
     pub fn of(alloc: Global, value: &'v Value) -> Result<Object<'v>, ReadFault>
         ensures { GivesBy data_of result (object_of (view value.now)) }
     {
@@ -63,27 +69,39 @@ impl<'v> Object<'v> {
     }
 
     /// Reads the member `key`. Where it is absent it is missing, at its own place.
+    ///
+    /// # Errors
+    ///
+    /// The first fault in the reading order, with its place from the object; and `Memory`.
     pub fn field<T: FromJson + Drop>(&self, key: &str) -> Result<T, ReadFault>
         ensures { Gives result (field_of T.reading key.now (data_of self.now)) }
     {
         match self.get(key) {
             Some(value) => member_as(self.alloc, key, value),
-            None => Err(ReadFault::here(self.alloc, Kind::Missing).under_key(self.alloc, key)),
+            None => Err(ReadFault::of_member(self.alloc, Kind::Missing, key)),
         }
     }
 
     /// Reads the member `key`, which is optional in its format and needed here: where it is absent
     /// or `null` it is missing, at its own place.
+    ///
+    /// # Errors
+    ///
+    /// The first fault in the reading order, with its place from the object; and `Memory`.
     pub fn needed_field<T: FromJson + Drop>(&self, key: &str) -> Result<T, ReadFault>
         ensures { Gives result (needed_field_of T.reading key.now (data_of self.now)) }
     {
         match self.optional(key) {
             Some(value) => member_as(self.alloc, key, value),
-            None => Err(ReadFault::here(self.alloc, Kind::Missing).under_key(self.alloc, key)),
+            None => Err(ReadFault::of_member(self.alloc, Kind::Missing, key)),
         }
     }
 
     /// Reads the optional member `key`, where it is there and not `null`.
+    ///
+    /// # Errors
+    ///
+    /// The first fault in the reading order, with its place from the object; and `Memory`.
     pub fn optional_field<T: FromJson + Drop>(&self, key: &str) -> Result<Option<T>, ReadFault>
         ensures { Gives result (optional_field_of T.reading key.now (data_of self.now)) }
     {

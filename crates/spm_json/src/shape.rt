@@ -9,7 +9,11 @@ use serde_json::Value;
 use spm_version::Kind;
 use std::alloc::Global;
 
-/// The document that the bytes spell (RFC 8259): a fault that is not `Memory` is `NotJson`.
+/// The document that the bytes spell (RFC 8259).
+///
+/// # Errors
+///
+/// `NotJson`, at the document itself; and `Memory`.
 pub fn read_document(alloc: Global, bytes: &[u8]) -> Result<Value, ReadFault>
     ensures { GivesBy view result (document_of bytes.now) }
 {
@@ -20,7 +24,11 @@ pub fn read_document(alloc: Global, bytes: &[u8]) -> Result<Value, ReadFault>
     }
 }
 
-/// What a whole document is read as. The place of a fault is a path from the document's root, which is `/`.
+/// What a whole document is read as.
+///
+/// # Errors
+///
+/// The first fault in the reading order, with its place as a path from the document's root, which is `/`; and `Memory`.
 pub fn read_whole<T: FromJson + Drop>(alloc: Global, bytes: &[u8]) -> Result<T, ReadFault>
     ensures { Gives result (whole_of T.reading bytes.now) }
 {
@@ -34,6 +42,10 @@ pub fn read_whole<T: FromJson + Drop>(alloc: Global, bytes: &[u8]) -> Result<T, 
 }
 
 /// The text of an item.
+///
+/// # Errors
+///
+/// `WrongKind`, at the item itself.
 pub fn text(alloc: Global, value: &Value) -> Result<&str, ReadFault>
     ensures { GivesBy (λ t. t.now) result (text_of (view value.now)) }
 {
@@ -44,6 +56,10 @@ pub fn text(alloc: Global, value: &Value) -> Result<&str, ReadFault>
 }
 
 /// An integer from 0 to the greatest `u64`.
+///
+/// # Errors
+///
+/// `WrongKind`, at the item itself.
 pub fn whole_number(alloc: Global, value: &Value) -> Result<u64, ReadFault>
     ensures { Gives result (whole_number_of (view value.now)) }
 {
@@ -54,6 +70,10 @@ pub fn whole_number(alloc: Global, value: &Value) -> Result<u64, ReadFault>
 }
 
 /// The items of a list.
+///
+/// # Errors
+///
+/// `WrongKind`, at the item itself.
 pub fn list(alloc: Global, value: &Value) -> Result<&Vec<Value>, ReadFault>
     ensures { GivesBy (λ v. map view v.now.items) result (list_of (view value.now)) }
 {
@@ -64,6 +84,10 @@ pub fn list(alloc: Global, value: &Value) -> Result<&Vec<Value>, ReadFault>
 }
 
 /// The items of a list that has at most `limit` of them.
+///
+/// # Errors
+///
+/// `WrongKind` or `TooMany`, at the item itself.
 pub fn limited_list(alloc: Global, value: &Value, limit: usize) -> Result<&Vec<Value>, ReadFault>
     ensures { GivesBy (λ v. map view v.now.items) result (limited_list_of limit (view value.now)) }
 {

@@ -1,17 +1,26 @@
 ghost use Rattle.spm_json.specs.Shape.{small_number_of, text_of, whole_number_of};
 ghost use Rattle.serde_json.specs.View.{view};
 ghost use Rattle.spm_json.specs.Object.{data_of};
-ghost use Rattle.spm_json.specs.Value.{identity_in, identity_reading, release_in, release_reading, tools_reading, trait_names_reading, trait_reading, version_field, version_reading};
+ghost use Rattle.spm_json.specs.Value.{
+  identity_in,
+  identity_reading,
+  release_in,
+  release_reading,
+  tools_reading,
+  trait_reading,
+  version_field,
+  version_reading,
+};
 ghost use Rattle.spm_json.specs.Reading.{Gives};
 
 use crate::fault::ReadFault;
 use crate::from_json::FromJson;
 use crate::object::Object;
-use crate::sequence::items;
+use crate::places::within;
 use crate::shape::{text, whole_number};
 use serde_json::Value;
 use spm_ident::{IdentFault, Identity};
-use spm_trait::{Listed, TraitFault, TraitName};
+use spm_trait::{TraitFault, TraitName};
 use spm_version::{Kind, Release, Text, ToolsVersion, VersionFault};
 use std::alloc::Global;
 
@@ -45,6 +54,10 @@ impl FromJson for u32 {
 }
 
 /// The identity that a text is, as an item or as a key.
+///
+/// # Errors
+///
+/// `BadIdentity`, at the item itself; and `Memory`.
 pub fn identity(alloc: Global, read: &str) -> Result<Identity, ReadFault>
     ensures { Gives result (identity_in read.now) }
 {
@@ -65,6 +78,10 @@ impl FromJson for Identity {
 }
 
 /// The release that a text is, as an item or as a key.
+///
+/// # Errors
+///
+/// `BadVersion`, at the item itself; and `Memory`.
 pub fn release(alloc: Global, read: &str) -> Result<Release, ReadFault>
     ensures { Gives result (release_in read.now) }
 {
@@ -109,16 +126,7 @@ impl FromJson for TraitName {
     }
 }
 
-impl FromJson for Listed<TraitName> {
-    ghost reading = { trait_names_reading };
-
-    fn from_json(alloc: Global, value: &Value) -> Result<Listed<TraitName>, ReadFault> {
-        let names = items(alloc, value)?;
-        Ok(Listed::from_vec(names.into_vec()))
-    }
-}
-
-/// The version of a file's own format has to be this number, as an integer.
+// The version of a file's own format has to be this number, as an integer.
 fn version(alloc: Global, value: &Value, wanted: u64) -> Result<(), ReadFault>
     ensures { Gives result (version_reading wanted (view value.now)) }
 {
@@ -131,17 +139,16 @@ fn version(alloc: Global, value: &Value, wanted: u64) -> Result<(), ReadFault>
     }
 }
 
-/// The member `version` of a file has to be this number: it is missing, of the wrong kind, or another number, which is
-/// a bad version.
+/// The member `version` of a file has to be this number.
+///
+/// # Errors
+///
+/// `Missing`, `WrongKind` or, at another number, `BadVersion`, at the member's place; and `Memory`.
 pub fn expect_version(alloc: Global, object: &Object, wanted: u64) -> Result<(), ReadFault>
     ensures { Gives result (version_field wanted (data_of object.now)) }
 {
-    let fault = match object.get("version") {
-        Some(value) => match version(alloc, value, wanted) {
-            Ok(()) => return Ok(()),
-            Err(fault) => fault,
-        },
-        None => ReadFault::here(alloc, Kind::Missing),
-    };
-    Err(fault.under_key(alloc, "version"))
+    match object.get("version") {
+        Some(value) => within(alloc, "version", version(alloc, value, wanted)),
+        None => Err(ReadFault::of_member(alloc, Kind::Missing, "version")),
+    }
 }

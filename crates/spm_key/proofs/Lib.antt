@@ -1,2 +1,4 @@
 pub mod EncodedLemmas
 pub mod OrderLemmas
+pub mod KeyLemmas
+pub mod ExtendsLaws

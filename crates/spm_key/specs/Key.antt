@@ -1,11 +1,11 @@
 -- Keys of a registry, and their paths (SE-0292, and the endpoints of the registry's service specification; the manifest's path is
 -- this project's own).
-use Rattle.std.specs.Prelude.{ℕ, ◌/◌, ◌%◌, ◌==◌, ◌||◌, List, [], ◌∷◌, ◌++◌, Bool, true, codes, if◌then◌else◌}
+use Rattle.std.specs.Prelude.{ℕ, ◌/◌, ◌%◌, ◌==◌, ◌||◌, List, [], ◌∷◌, ◌++◌, ◌<◌, All, Bool, true, IsUtf8, codes, if◌then◌else◌}
 use Rattle.std.specs.Char.{is_ascii_alphanumeric}
 use Rattle.std.specs.Fmt.{digit_glyph}
 use Rattle.std.specs.List.{flat_map}
-use Rattle.spm_ident.specs.Identity.{name_of, scope_of}
-use Rattle.spm_version.specs.Release.{Parts, parts_text}
+use Rattle.spm_ident.specs.Identity.{IsIdentity, name_of, scope_of}
+use Rattle.spm_version.specs.Release.{IsValid, Parts, parts_text}
 use Rattle.spm_key.specs.declared.key.Key.{Key}
 use Rattle.spm_key.specs.declared.key.Key.TheVariants as key
 
@@ -42,3 +42,15 @@ key_text (key.Manifest identity release) = release_path identity release (codes 
 key_text (key.Release identity release) = release_path identity release []
 key_text (key.Archive identity release) = release_path identity release (codes ".zip")
 key_text (key.Identifiers url) = query_path url
+
+-- a text: bytes of UTF-8
+abbrev pub IsText : List ℕ → Type 0
+IsText text = IsUtf8 text × All (λ byte. byte < 256) text
+
+-- a key that can be: its parts are what their types say
+abbrev pub IsKey : Key → Type 0
+IsKey (key.List identity) = IsIdentity identity
+IsKey (key.Manifest identity release) = IsIdentity identity × IsValid release
+IsKey (key.Release identity release) = IsIdentity identity × IsValid release
+IsKey (key.Archive identity release) = IsIdentity identity × IsValid release
+IsKey (key.Identifiers url) = IsText url

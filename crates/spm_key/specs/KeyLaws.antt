@@ -1,7 +1,8 @@
 -- The order of keys: by kind, and then by their parts.
-use Rattle.std.specs.Prelude.{◌≡◌, ◌==◌, ◌&&◌, ℕ, List, Bool, Option, Some, None, nat_eq, refl}
+use Rattle.std.specs.Str.{bytes_eq}
+use Rattle.std.specs.Prelude.{◌≡◌, ◌==◌, ◌&&◌, ℕ, List, Bool, Option, Some, None, refl}
 use Rattle.std.specs.Cmp.{IsEquivalence, IsPartialOrder, IsTotalOrder, and_equiv, both_tied, nat_cmp_total, nat_eq_equiv, on_equiv, on_total, po, then_total, unsigned_ties}
-use Rattle.std.specs.Cmp.Lexicographic.{nat_list_cmp_total, nat_list_eq_equiv, options_equiv, options_total, pointwise, slice_cmp, texts_ties}
+use Rattle.std.specs.Cmp.Lexicographic.{nat_list_cmp_total, nat_list_eq_equiv, options_equiv, options_total, slice_cmp, texts_ties}
 use Rattle.std.specs.Option.{option_cmp, option_eq}
 use Rattle.std.specs.Ordering.{eq_by_cmp, nat_cmp, ordering_then}
 use Rattle.std.specs.declared.cmp.Ordering.{Ordering}
@@ -42,8 +43,8 @@ url_in (key.Identifiers url) = Some url
 
 -- the same kind and the same parts
 abbrev pub key_eq : Key → Key → Bool
-key_eq first second = kind_of first == kind_of second && option_eq (pointwise nat_eq) (identity_in first) (identity_in second)
-    && option_eq release_eq (release_in first) (release_in second) && option_eq (pointwise nat_eq) (url_in first) (url_in second)
+key_eq first second = kind_of first == kind_of second && option_eq (bytes_eq) (identity_in first) (identity_in second)
+    && option_eq release_eq (release_in first) (release_in second) && option_eq (bytes_eq) (url_in first) (url_in second)
 
 -- by kind, then by identity, by release and by URL
 abbrev pub key_cmp : Key → Key → Ordering
@@ -69,9 +70,9 @@ option_ties E R ties (Some first) (Some second) = ties first second
 -- two keys are equal exactly where the order does not tell them apart
 pub key_ties : (first second : Key) → key_eq first second ≡ eq_by_cmp key_cmp first second
 key_ties first second = both_tied _ _ _ _ (both_tied _ _ _ _ (both_tied _ _ _ _ (unsigned_ties (kind_of first) (kind_of second))
-    (option_ties (pointwise nat_eq) (slice_cmp nat_cmp) texts_ties (identity_in first) (identity_in second)))
+    (option_ties (bytes_eq) (slice_cmp nat_cmp) texts_ties (identity_in first) (identity_in second)))
     (option_ties release_eq release_cmp release_ties (release_in first) (release_in second)))
-    (option_ties (pointwise nat_eq) (slice_cmp nat_cmp) texts_ties (url_in first) (url_in second))
+    (option_ties (bytes_eq) (slice_cmp nat_cmp) texts_ties (url_in first) (url_in second))
 
 pub key_po : IsPartialOrder key_eq (λ first second. Some (key_cmp first second))
 key_po = po key_total key_ties

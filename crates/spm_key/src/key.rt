@@ -1,8 +1,20 @@
 ghost use Rattle.std.specs.Prelude.{◌≡◌, IfOk, Some, refl};
 ghost use Rattle.std.specs.Cmp.{partial_equiv_from_equiv};
 ghost use Rattle.std.specs.Option.{option_copied};
-ghost use Rattle.spm_key.specs.Key.{key_text, package_path, query_path, release_path};
-ghost use Rattle.spm_key.specs.KeyLaws.{identity_in, key_cmp, key_eq, key_equiv, key_po, key_ties, key_total, kind_of, release_in, url_in};
+ghost use Rattle.spm_ident.specs.Identity.{IsIdentity};
+ghost use Rattle.spm_key.specs.Key.{IsKey, IsText, key_text, package_path, query_path, release_path};
+ghost use Rattle.spm_key.specs.KeyLaws.{
+  identity_in,
+  key_cmp,
+  key_eq,
+  key_equiv,
+  key_po,
+  key_ties,
+  key_total,
+  kind_of,
+  release_in,
+  url_in,
+};
 
 use percent_encoding::{AsciiSet, NON_ALPHANUMERIC, ascii_set, utf8_percent_encode};
 use spm_ident::Identity;
@@ -67,20 +79,36 @@ impl Key {
         ensures { IfOk result (λ key. key ≡ self.now) }
     {
         match self {
-            Key::List(identity) => Ok(Key::List(copy_of(alloc, identity)?)),
+            Key::List(identity) => Ok(Key::List(identity.copy(alloc)?)),
             Key::Manifest(identity, release) => Ok(Key::Manifest(
-                copy_of(alloc, identity)?,
+                identity.copy(alloc)?,
                 release.copy(alloc)?,
             )),
             Key::Release(identity, release) => Ok(Key::Release(
-                copy_of(alloc, identity)?,
+                identity.copy(alloc)?,
                 release.copy(alloc)?,
             )),
             Key::Archive(identity, release) => Ok(Key::Archive(
-                copy_of(alloc, identity)?,
+                identity.copy(alloc)?,
                 release.copy(alloc)?,
             )),
             Key::Identifiers(url) => Ok(Key::Identifiers(url.copy(alloc)?)),
+        }
+    }
+
+    /// A law, with nothing to run: each key is one that can be.
+    pub fn is_key(&self)
+        ensures { IsKey self.now }
+    {
+        match self {
+            Key::List(identity) => is_identity(identity),
+            Key::Manifest(identity, release)
+            | Key::Release(identity, release)
+            | Key::Archive(identity, release) => {
+                is_identity(identity);
+                release.is_valid();
+            }
+            Key::Identifiers(url) => is_text(url.as_str()),
         }
     }
 
@@ -97,6 +125,7 @@ impl Key {
         }
     }
 
+    // The package that it asks for.
     fn identity(&self) -> Option<&Identity>
         ensures { option_copied result ≡ identity_in self.now }
     {
@@ -109,6 +138,7 @@ impl Key {
         }
     }
 
+    // The release that it asks for.
     fn release(&self) -> Option<&Release>
         ensures { option_copied result ≡ release_in self.now }
     {
@@ -120,6 +150,7 @@ impl Key {
         }
     }
 
+    // The URL that it asks for.
     fn url(&self) -> Option<&Text>
         ensures { option_copied result ≡ url_in self.now }
     {
@@ -177,11 +208,17 @@ impl Ord for Key {
     }
 }
 
-fn copy_of(alloc: Global, identity: &Identity) -> Result<Identity, NoMemory>
-    ensures { IfOk result (λ copy. copy ≡ identity.now) }
+// A law: each identity is one of the grammar.
+fn is_identity(identity: &Identity)
+    ensures { IsIdentity identity.now }
 {
-    identity.copy(alloc).map_err(|_| NoMemory)
+    identity.text();
 }
+
+// A law: each `str` is a text.
+fn is_text(text: &str)
+    ensures { IsText text.now }
+{}
 
 // `/scope/name`.
 fn package_path(alloc: Global, identity: &Identity) -> Result<Text, NoMemory>
@@ -191,8 +228,12 @@ fn package_path(alloc: Global, identity: &Identity) -> Result<Text, NoMemory>
     Ok(Text::from_string(format!(in alloc; "/{scope}/{name}")?))
 }
 
-// `/scope/name/version`, and what ends it.
-fn release_path(
+/// The path of a release: `/scope/name/version`, and what ends it.
+///
+/// # Errors
+///
+/// `NoMemory` alone.
+pub fn release_path(
     alloc: Global,
     identity: &Identity,
     release: &Release,

@@ -6,11 +6,14 @@
 //!
 //! A [`Reply`] is a status with a body; an archive's body may be kept as its SHA-256 and length alone. `specs/Catalogue.antt` has
 //! what the layers above speak of: a catalogue is a finite map from keys to replies, and one extends another if it holds all that
-//! the other holds, unchanged.
+//! the other holds, unchanged; [`catalogues_extend`] has the laws of that.
 #![tactic(auto)]
 
 mod key;
+mod laws;
 mod reply;
+mod shared;
 
-pub use key::Key;
+pub use key::{Key, release_path};
+pub use laws::catalogues_extend;
 pub use reply::{Body, Reply};

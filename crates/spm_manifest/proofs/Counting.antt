@@ -8,7 +8,6 @@ use Rattle.std.proofs.lemmas.Bool.{both_ways, cases_Bool, eq-eqb, false≢true, 
 use Rattle.std.proofs.lemmas.Option.{none-some, same_Some}
 use Rattle.std.proofs.lemmas.List.{drop_more}
 use Rattle.std.proofs.lemmas.Slice.Eq.{bytes_eq-Decides}
-use Rattle.spm_json.specs.Names.{same_name}
 use Rattle.spm_manifest.specs.Counted.{by_number, counted_of, counts_at, need_at, number_after, number_of, uses_at, with_counted}
 use Rattle.spm_manifest.specs.Guard.{all_uses, counts_by_name, counts_for, distinct_after, guard_by, is_named, is_target, need_of}
 use Rattle.spm_manifest.specs.declared.dependency.Dependency.{Dependency}
@@ -21,6 +20,7 @@ use Rattle.spm_manifest.specs.declared.uses.UsingTarget.{UsingTarget}
 
 -- ---- names without repeats
 
+-- functions with the same answers are one
 same_answers : {A B : Type 0} (p q : A → B) → ((x : A) → p x ≡ q x) → p ≡ q
 same_answers p q same = λ i x. same x i
 
@@ -31,13 +31,14 @@ distinct_met has list names rest i name below is met =
     let split : drop i names ≡ name ∷ drop (i + 1) names = drop_more names i name below ∙ ap (λ n. n ∷ drop (i + 1) names) (sym is) in
     rw (split, met) refl
 
+-- a name that was not met is listed, and then met
 pub distinct_new : (has after : List ℕ → Bool) (list longer names rest : List (List ℕ)) (i : ℕ) (name : List ℕ) → i < length names → name ≡ get_or names i name → has name ≡ false
-    → ((other : List ℕ) → after other ≡ (same_name name other || has other)) → longer ≡ list ++ name ∷ []
+    → ((other : List ℕ) → after other ≡ (bytes_eq name other || has other)) → longer ≡ list ++ name ∷ []
     → longer ++ distinct_after after (drop (i + 1) names ++ rest) ≡ list ++ distinct_after has (drop i names ++ rest)
 distinct_new has after list longer names rest i name below is new same long =
     let split : drop i names ≡ name ∷ drop (i + 1) names = drop_more names i name below ∙ ap (λ n. n ∷ drop (i + 1) names) (sym is) in
-    let test : after ≡ (λ other. same_name name other || has other) = same_answers after (λ other. same_name name other || has other) same in
-    rw (split, new, long, test) (append_assoc list (name ∷ []) (distinct_after (λ other. same_name name other || has other) (drop (i + 1) names ++ rest)))
+    let test : after ≡ (λ other. bytes_eq name other || has other) = same_answers after (λ other. bytes_eq name other || has other) same in
+    rw (split, new, long, test) (append_assoc list (name ∷ []) (distinct_after (λ other. bytes_eq name other || has other) (drop (i + 1) names ++ rest)))
 
 -- ---- numbers
 
@@ -65,21 +66,26 @@ number_is_some found i identity (dependency ∷ others) = elim (cases_Bool (byte
   | inr other ↦ rw other (number_is_some found (i + 1) identity others)
 ]
 
+-- what was found is below this number
 abbrev Below : ℕ → Option ℕ → Type 0
 Below i found = (n : ℕ) → found ≡ Some n → n < i
 
+-- what is below a number is below the next
 below_next : (i : ℕ) (found : Option ℕ) → Below i found → Below (i + 1) found
 below_next i found below = λ n is. let lt : n < i = below n is in omega arith
 
+-- a number is below the next
 below_some : (i : ℕ) → Below (i + 1) (Some i)
 below_some i = λ n is. let same : i ≡ n = same_Some i n is in omega arith
 
+-- one number is not both new and below the new one
 not_itself : {P : Type 0} (i : ℕ) (found : Option ℕ) (j : ℕ) → Below i found → Some i ≡ Some j → found ≡ Some j → P
 not_itself i found j below first second =
     let same : i ≡ j = same_Some i j first in
     let lt : j < i = below j second in
     absurd (omega arith)
 
+-- texts that are equal by the test are one
 same_text : (first second : List ℕ) → bytes_eq first second ≡ true → first ≡ second
 same_text first second is = (bytes_eq-Decides first second).0 is
 
@@ -116,6 +122,7 @@ one_identity found other i first second (dependency ∷ others) j below_found be
 
 module _ (targets : List UsingTarget) (dependencies : List Dependency) (dependency : Dependency) (number : ℕ)
     (numbered : number_of dependencies (str_to_ascii_lowercase dependency.identity) ≡ Some number) where
+  -- a name counts for a dependency by its number as by its identity
   counts_by : (name : List ℕ) (found : Option ℕ) → number_of dependencies (str_to_ascii_lowercase name) ≡ found
       → counts_at number (by_number found) ≡ counts_by_name dependencies name dependency
   counts_by name None is =
@@ -135,6 +142,7 @@ module _ (targets : List UsingTarget) (dependencies : List Dependency) (dependen
             ]))
       ])
 
+  -- so does what a target names
   counts_named : (named : Named) → counts_at number (counted_of (number_of dependencies) (is_target targets) named) ≡ counts_for targets dependencies dependency named
   counts_named (Package name) = counts_by name (number_of dependencies (str_to_ascii_lowercase name)) refl
   counts_named (Name name) = elim (cases_Bool (is_target targets name)) [
@@ -143,6 +151,7 @@ module _ (targets : List UsingTarget) (dependencies : List Dependency) (dependen
   ]
   counts_named Everything = refl
 
+  -- so do all uses
   uses_counted : (uses : List Use) → uses_at number (with_counted (number_of dependencies) (is_target targets) uses)
       ≡ filter (λ found. counts_for targets dependencies dependency found.named) uses
   uses_counted [] = refl
@@ -150,6 +159,7 @@ module _ (targets : List UsingTarget) (dependencies : List Dependency) (dependen
 
 -- ---- the needs
 
+-- a test that holds at a place holds of some item
 any_at : {A : Type 0} (p : A → Bool) (xs : List A) (i : ℕ) (x : A) → i < length xs → x ≡ get_or xs i x → p x ≡ true → list_any p xs ≡ true
 any_at p [] i x below is passes = absurd (omega arith)
 any_at p (y ∷ ys) zero x below is passes = rw (← is, passes) refl
@@ -163,6 +173,7 @@ is_numbered dependencies i dependency below is =
     ∙ any_at (has_identity (str_to_ascii_lowercase dependency.identity)) dependencies i dependency below is
     ((bytes_eq-Decides (str_to_ascii_lowercase dependency.identity) (str_to_ascii_lowercase dependency.identity)).1 refl)
 
+-- a number that is there is itself
 the_number : (found : Option ℕ) → is_some found ≡ true → found ≡ Some (unwrap_or found 0)
 the_number (Some n) is = refl
 the_number None is = absurd (false≢true is)

@@ -11,8 +11,6 @@ use Rattle.spm_json.specs.Shape.{object_of, text_of}
 use Rattle.spm_json.specs.Value.{identity_reading, trait_reading}
 use Rattle.spm_manifest.specs.Requirement.{registry_requirement, source_requirement}
 use Rattle.spm_manifest.specs.Traits.{condition_reading}
-use Rattle.spm_manifest.specs.declared.dependency.Asks.{Asks}
-use Rattle.spm_manifest.specs.declared.dependency.Dependencies.{Dependencies}
 use Rattle.spm_manifest.specs.declared.dependency.Dependency.{Dependency}
 use Rattle.spm_manifest.specs.declared.dependency.FolderDependency.{FolderDependency}
 use Rattle.spm_manifest.specs.declared.dependency.Location.{Location}
@@ -40,15 +38,15 @@ ask_reading d = object_of d >>= λ o.
 abbrev pub max_asks : ℕ
 max_asks = 300
 
-abbrev pub asks_reading : Data → Reading Asks
-asks_reading d = limited_items_of ask_reading max_asks d >>= λ asked. Ok (record { asked = asked })
+abbrev pub asks_reading : Data → Reading (List Ask)
+asks_reading d = limited_items_of ask_reading max_asks d
 
 -- without a list the traits by default are asked
 abbrev pub ask_default : Ask
 ask_default = record { name = codes "default"; under = [] }
 
-abbrev pub asked_of : Option Asks → List Ask
-asked_of (Some asks) = asks.asked
+abbrev pub asked_of : Option (List Ask) → List Ask
+asked_of (Some asks) = asks
 asked_of None = ask_default ∷ []
 
 abbrev pub asked_reading : Data → Reading (List Ask)
@@ -134,5 +132,5 @@ dependency_reading d = object_of d >>= λ o. by_registry (get (codes "registry")
 abbrev pub max_dependencies : ℕ
 max_dependencies = 512
 
-abbrev pub dependencies_reading : Data → Reading Dependencies
-dependencies_reading d = limited_items_of dependency_reading max_dependencies d >>= λ dependencies. Ok (record { dependencies = dependencies })
+abbrev pub dependencies_reading : Data → Reading (List Dependency)
+dependencies_reading d = limited_items_of dependency_reading max_dependencies d

@@ -1,9 +1,9 @@
 -- The guard of a dependency (this profile's rule): where it has a use, and all of its uses have a condition, the
 -- traits of these conditions; else none. It is defined over the whole list of uses of all targets.
+use Rattle.std.specs.Str.{bytes_eq}
 use Rattle.std.specs.Prelude.{ℕ, ◌||◌, List, [], ◌∷◌, length, Bool, true, false, nat_lt, Option, Some, None, if◌then◌else◌}
 use Rattle.std.specs.List.{filter, flat_map, list_all, list_any}
 use Rattle.std.specs.Str.{str_eq_ignore_ascii_case}
-use Rattle.spm_json.specs.Names.{same_name}
 use Rattle.spm_manifest.specs.declared.dependency.Dependency.{Dependency}
 use Rattle.spm_manifest.specs.declared.need.Guard.{Guard}
 use Rattle.spm_manifest.specs.declared.need.Guard.TheVariants.{Always, Any}
@@ -23,7 +23,7 @@ abbrev pub counts_by_name : List Dependency → List ℕ → Dependency → Bool
 counts_by_name all name dependency = if list_any (is_named name) all then is_named name dependency else true
 
 abbrev pub is_that_name : List ℕ → Option (List ℕ) → Bool
-is_that_name name (Some other) = same_name other name
+is_that_name name (Some other) = bytes_eq other name
 is_that_name name None = false
 
 -- a target of this manifest has this name
@@ -55,7 +55,7 @@ uses_of targets all dependency = filter (λ found. counts_for targets all depend
 abbrev pub distinct_after : (List ℕ → Bool) → List (List ℕ) → List (List ℕ)
 distinct_after is_seen [] = []
 distinct_after is_seen (name ∷ names) =
-    if is_seen name then distinct_after is_seen names else name ∷ distinct_after (λ other. same_name name other || is_seen other) names
+    if is_seen name then distinct_after is_seen names else name ∷ distinct_after (λ other. bytes_eq name other || is_seen other) names
 
 abbrev pub distinct : List (List ℕ) → List (List ℕ)
 distinct names = distinct_after (λ name. false) names

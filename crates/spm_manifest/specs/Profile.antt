@@ -12,8 +12,6 @@ use Rattle.spm_manifest.specs.Dependency.{dependencies_reading}
 use Rattle.spm_manifest.specs.Guard.{need_of}
 use Rattle.spm_manifest.specs.Traits.{declared_reading, or_nothing}
 use Rattle.spm_manifest.specs.Uses.{target_reading}
-use Rattle.spm_manifest.specs.declared.dependency.Dependencies.{Dependencies}
-use Rattle.spm_manifest.specs.declared.dependency.Dependency.{Dependency}
 use Rattle.spm_manifest.specs.declared.dump.Contents.{Contents}
 use Rattle.spm_manifest.specs.declared.dump.Dump.{Dump}
 use Rattle.spm_manifest.specs.declared.dump.ToolsObject.{ToolsObject}
@@ -32,10 +30,6 @@ abbrev pub traits_in : Option Declared → Traits
 traits_in (Some declared) = declared.traits
 traits_in None = no_traits
 
-abbrev pub dependencies_in : Option Dependencies → List Dependency
-dependencies_in (Some found) = found.dependencies
-dependencies_in None = []
-
 -- what a dump says, in its own parts
 abbrev pub dump_reading : Data → Reading Dump
 dump_reading d = object_of d >>= λ o.
@@ -48,7 +42,7 @@ dump_reading d = object_of d >>= λ o.
       name = name;
       tools = tools.tools;
       traits = traits_in declared;
-      dependencies = dependencies_in dependencies;
+      dependencies = or_nothing dependencies;
       targets = or_nothing targets;
     })
 

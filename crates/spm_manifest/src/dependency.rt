@@ -3,15 +3,32 @@ ghost use Rattle.serde_json.specs.Find.{get};
 ghost use Rattle.serde_json.specs.View.{view};
 ghost use Rattle.spm_json.specs.Object.{data_of};
 ghost use Rattle.spm_json.specs.Reading.{Gives};
-ghost use Rattle.spm_manifest.specs.Dependency.{ask_default, ask_reading, asked_reading, asks_reading, at_location, by_folder, by_local, by_source, dependencies_reading, dependency_reading, folder, folder_dependency, location_reading, registry_dependency, remote_reading, repository, source_dependency};
+ghost use Rattle.spm_manifest.specs.Dependency.{
+  ask_default,
+  ask_reading,
+  asked_reading,
+  at_location,
+  by_folder,
+  by_local,
+  by_source,
+  dependency_reading,
+  folder,
+  folder_dependency,
+  location_reading,
+  registry_dependency,
+  remote_reading,
+  repository,
+  source_dependency,
+};
 
+use crate::limited::Limited;
 use crate::need::{Ask, Target};
 use crate::requirement::{RegistryRequirement, SourceRequirement};
 use crate::traits::Condition;
 use serde_json::Value;
 use spm_ident::Identity;
-use spm_json::{FromJson, Object, ReadFault, limited_items, sole_member};
-use spm_trait::{Listed, TraitName};
+use spm_json::{FromJson, Object, ReadFault, sole_member};
+use spm_trait::TraitName;
 use spm_version::{Items, Kind, NoMemory, Requirement, Text};
 use std::alloc::Global;
 
@@ -32,47 +49,32 @@ impl FromJson for Ask {
             name,
             under: match condition {
                 Some(condition) => condition.traits,
-                None => Listed::from_vec(Vec::new(alloc)),
+                None => Items::from_vec(Vec::new(alloc)),
             },
         })
     }
 }
 
-/// The list `traits` of a dependency.
-#[derive(Drop)]
-pub struct Asks {
-    pub asked: Items<Ask>,
-}
-
-impl FromJson for Asks {
-    ghost reading = { asks_reading };
-
-    fn from_json(alloc: Global, value: &Value) -> Result<Asks, ReadFault> {
-        let asked = limited_items(alloc, value, MAX_ASKS)?;
-        Ok(Asks { asked })
-    }
-}
-
-/// What is asked of a dependency without a list: its traits by default.
+// What is asked of a dependency without a list: its traits by default.
 fn default_asks(alloc: Global) -> Result<Items<Ask>, NoMemory>
     ensures { IfOk result (λ asked. asked ≡ ask_default ∷ []) }
 {
     let Ok(name) = TraitName::parse(alloc, "default") else {
         return Err(NoMemory);
     };
-    let under = Listed::from_vec(Vec::new(alloc));
+    let under = Items::from_vec(Vec::new(alloc));
     let mut asked = Items::new(alloc);
     asked.push(Ask { name, under })?;
     Ok(asked)
 }
 
-/// What is asked of a dependency.
+// What is asked of a dependency.
 fn asked(alloc: Global, object: &Object) -> Result<Items<Ask>, ReadFault>
     ensures { Gives result (asked_reading (data_of object.now)) }
 {
-    let asks: Option<Asks> = object.optional_field("traits")?;
+    let asks: Option<Limited<Ask, MAX_ASKS>> = object.optional_field("traits")?;
     match asks {
-        Some(asks) => Ok(asks.asked),
+        Some(asks) => Ok(asks.items),
         None => Ok(default_asks(alloc)?),
     }
 }
@@ -141,7 +143,7 @@ pub struct Location {
     pub target: Target,
 }
 
-/// The folder in which a repository is.
+// The folder in which a repository is.
 fn local(alloc: Global, object: &Object) -> Result<Location, ReadFault>
     ensures { Gives result (by_local (get (codes "local") (data_of object.now))) }
 {
@@ -173,7 +175,7 @@ impl FromJson for Location {
     }
 }
 
-/// A dependency on a folder, of which nothing further is read.
+// A dependency on a folder, of which nothing further is read.
 fn folder(alloc: Global, identity: Text, target: Target) -> Result<Dependency, NoMemory>
     ensures { IfOk result (λ dependency. dependency ≡ folder identity target) }
 {
@@ -186,7 +188,7 @@ fn folder(alloc: Global, identity: Text, target: Target) -> Result<Dependency, N
     })
 }
 
-/// A dependency on a repository at a URL.
+// A dependency on a repository at a URL.
 fn repository(
     alloc: Global,
     identity: Text,
@@ -205,7 +207,7 @@ fn repository(
     })
 }
 
-/// A dependency on what is at a location.
+// A dependency on what is at a location.
 fn at_location(
     alloc: Global,
     identity: Text,
@@ -256,7 +258,7 @@ impl FromJson for FolderDependency {
     }
 }
 
-/// The folder that the member `fileSystem` is.
+// The folder that the member `fileSystem` is.
 fn folder_of(alloc: Global, object: &Object) -> Result<Dependency, ReadFault>
     ensures { Gives result (by_folder (get (codes "fileSystem") (data_of object.now))) }
 {
@@ -269,7 +271,7 @@ fn folder_of(alloc: Global, object: &Object) -> Result<Dependency, ReadFault>
     }
 }
 
-/// The repository or the folder that the member `sourceControl` or `fileSystem` is.
+// The repository or the folder that the member `sourceControl` or `fileSystem` is.
 fn source_of(alloc: Global, object: &Object) -> Result<Dependency, ReadFault>
     ensures { Gives result (by_source (get (codes "sourceControl") (data_of object.now)) (data_of object.now)) }
 {
@@ -298,16 +300,4 @@ impl FromJson for Dependency {
 }
 
 /// The list `dependencies`.
-#[derive(Drop)]
-pub struct Dependencies {
-    pub dependencies: Items<Dependency>,
-}
-
-impl FromJson for Dependencies {
-    ghost reading = { dependencies_reading };
-
-    fn from_json(alloc: Global, value: &Value) -> Result<Dependencies, ReadFault> {
-        let dependencies = limited_items(alloc, value, MAX_DEPENDENCIES)?;
-        Ok(Dependencies { dependencies })
-    }
-}
+pub type Dependencies = Limited<Dependency, MAX_DEPENDENCIES>;

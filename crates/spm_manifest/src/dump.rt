@@ -6,7 +6,7 @@ use crate::traits::Declared;
 use crate::uses::UsingTarget;
 use serde_json::Value;
 use spm_json::{FromJson, Object, ReadFault};
-use spm_trait::{Listed, Traits};
+use spm_trait::Traits;
 use spm_version::{Items, Text, ToolsVersion};
 use std::alloc::Global;
 
@@ -52,11 +52,11 @@ impl FromJson for Dump {
             traits: match declared {
                 Some(declared) => declared.traits,
                 None => Traits {
-                    entries: Listed::from_vec(Vec::new(alloc)),
+                    entries: Items::from_vec(Vec::new(alloc)),
                 },
             },
             dependencies: match dependencies {
-                Some(found) => found.dependencies,
+                Some(found) => found.items,
                 None => Items::new(alloc),
             },
             targets: match targets {

@@ -3,14 +3,32 @@ ghost use Rattle.std.specs.Str.{str_to_ascii_lowercase};
 ghost use Rattle.std.specs.BTreeMap.{get_by_text};
 ghost use Rattle.std.specs.List.{flat_map, list_all};
 ghost use Rattle.spm_json.specs.Names.{has_name};
-ghost use Rattle.spm_manifest.specs.Counted.{by_number, counted_of, counted_use, counts_at, need_at, number_of, uses_at, with_counted};
-ghost use Rattle.spm_manifest.specs.Guard.{all_uses, distinct, distinct_after, guard_by, has_condition, is_target, need_of, some_uses};
+ghost use Rattle.spm_manifest.specs.Counted.{
+  by_number,
+  counted_of,
+  counted_use,
+  counts_at,
+  need_at,
+  number_of,
+  uses_at,
+  with_counted,
+};
+ghost use Rattle.spm_manifest.specs.Guard.{
+  all_uses,
+  distinct,
+  distinct_after,
+  guard_by,
+  has_condition,
+  is_target,
+  need_of,
+  some_uses,
+};
 
 use crate::dependency::Dependency;
 use crate::need::{Guard, Need};
 use crate::uses::{Named, OptionalUse, Use, UsingTarget};
 use spm_json::Names;
-use spm_trait::{Listed, TraitName};
+use spm_trait::TraitName;
 use spm_version::{Items, NoMemory};
 use std::alloc::Global;
 use std::collections::BTreeMap;
@@ -27,7 +45,7 @@ pub enum Counted {
 }
 
 impl Counted {
-    /// Whether it counts for the dependencies with this number.
+    // Whether it counts for the dependencies with this number.
     fn counts_at(self, number: usize) -> bool
         ensures { result ≡ counts_at number self }
     {
@@ -39,7 +57,7 @@ impl Counted {
     }
 }
 
-/// The number of each identity, in lower case: that of the last dependency with it.
+// The number of each identity, in lower case: that of the last dependency with it.
 fn numbers_of(
     alloc: Global,
     dependencies: &[Dependency],
@@ -54,7 +72,7 @@ fn numbers_of(
     Ok(numbers)
 }
 
-/// The names of the targets that have one.
+// The names of the targets that have one.
 fn target_names(alloc: Global, targets: &[UsingTarget]) -> Result<Names, NoMemory>
     ensures { IfOk result (λ names. (name : List ℕ) → has_name names name ≡ is_target targets.now name) }
 {
@@ -67,7 +85,7 @@ fn target_names(alloc: Global, targets: &[UsingTarget]) -> Result<Names, NoMemor
     Ok(names)
 }
 
-/// Adds the uses that are no uses of targets.
+// Adds the uses that are no uses of targets.
 fn push_uses<'t>(uses: &mut Vec<&'t Use>, optional: &'t [OptionalUse]) -> Result<(), NoMemory>
     ensures { OnOk result (map (λ found. found.now) uses.new.items ≡ map (λ found. found.now) uses.old.items ++ some_uses optional.now) }
 {
@@ -79,7 +97,7 @@ fn push_uses<'t>(uses: &mut Vec<&'t Use>, optional: &'t [OptionalUse]) -> Result
     Ok(())
 }
 
-/// The uses of all targets, in order of appearance.
+// The uses of all targets, in order of appearance.
 fn all_uses<'t>(alloc: Global, targets: &'t [UsingTarget]) -> Result<Vec<&'t Use>, NoMemory>
     ensures { IfOk result (λ uses. map (λ found. found.now) uses.items ≡ all_uses targets.now) }
 {
@@ -98,7 +116,7 @@ struct Counting {
 }
 
 impl Counting {
-    /// Whom a name counts for that isn't a target's.
+    // Whom a name counts for that isn't a target's.
     fn by_name(&self, alloc: Global, name: &str) -> Result<Counted, NoMemory>
         ensures { IfOk result (λ counted. counted ≡ by_number (get_by_text self.now.numbers (str_to_ascii_lowercase name.now))) }
     {
@@ -109,7 +127,7 @@ impl Counting {
         }
     }
 
-    /// Whom a use counts for.
+    // Whom a use counts for.
     fn counted(&self, alloc: Global, named: &Named) -> Result<Counted, NoMemory>
         ensures { IfOk result (λ counted. counted ≡ counted_of (get_by_text self.now.numbers) (has_name self.now.targets) named.now) }
     {
@@ -121,7 +139,7 @@ impl Counting {
         }
     }
 
-    /// The uses, each with whom it counts for.
+    // The uses, each with whom it counts for.
     fn counted_uses<'u>(
         &self,
         alloc: Global,
@@ -141,7 +159,7 @@ impl Counting {
         Ok(counted)
     }
 
-    /// The need that a dependency is.
+    // The need that a dependency is.
     fn need(
         &self,
         alloc: Global,
@@ -173,7 +191,7 @@ pub struct CountedUse<'u> {
     pub found: &'u Use,
 }
 
-/// The uses that count for the dependencies with this number.
+// The uses that count for the dependencies with this number.
 fn uses_at<'u>(
     alloc: Global,
     counted: &[CountedUse<'u>],
@@ -190,17 +208,7 @@ fn uses_at<'u>(
     Ok(uses)
 }
 
-/// A copy of a name, with this crate's fault.
-fn copy_name(alloc: Global, name: &TraitName) -> Result<TraitName, NoMemory>
-    ensures { IfOk result (λ copy. copy ≡ name.now) }
-{
-    match name.copy(alloc) {
-        Ok(copy) => Ok(copy),
-        Err(_) => Err(NoMemory),
-    }
-}
-
-/// Adds the names that weren't met before.
+// Adds the names that weren't met before.
 fn push_distinct(
     alloc: Global,
     met: &mut Names,
@@ -213,14 +221,14 @@ fn push_distinct(
     for name in names {
         if !met.has(name.text()) {
             let _new: bool = met.insert(alloc, name.text())?;
-            list.push(copy_name(alloc, name)?)?;
+            list.push(name.copy(alloc)?)?;
         }
     }
     Ok(())
 }
 
-/// The traits of the uses' conditions, in order of appearance, without repeats.
-fn distinct_conditions(alloc: Global, uses: &[&Use]) -> Result<Listed<TraitName>, NoMemory>
+// The traits of the uses' conditions, in order of appearance, without repeats.
+fn distinct_conditions(alloc: Global, uses: &[&Use]) -> Result<Items<TraitName>, NoMemory>
     ensures { IfOk result (λ names. names ≡ distinct (flat_map (λ found. found.condition) (map (λ found. found.now) uses.now))) }
 {
     let mut met = Names::new(alloc);
@@ -228,10 +236,10 @@ fn distinct_conditions(alloc: Global, uses: &[&Use]) -> Result<Listed<TraitName>
     for found in uses {
         push_distinct(alloc, &mut met, &mut list, found.condition.as_slice())?;
     }
-    Ok(Listed::from_vec(list))
+    Ok(Items::from_vec(list))
 }
 
-/// Whether each of the uses has a condition.
+// Whether each of the uses has a condition.
 fn have_conditions(uses: &[&Use]) -> bool
     ensures { result ≡ list_all has_condition (map (λ found. found.now) uses.now) }
 {
@@ -243,7 +251,7 @@ fn have_conditions(uses: &[&Use]) -> bool
     true
 }
 
-/// The guard of a dependency with these uses.
+// The guard of a dependency with these uses.
 fn guard_by(alloc: Global, uses: &[&Use]) -> Result<Guard, NoMemory>
     ensures { IfOk result (λ guard. guard ≡ guard_by (map (λ found. found.now) uses.now)) }
 {

@@ -13,9 +13,11 @@
 mod dependency;
 mod dump;
 mod guard;
+mod limited;
 mod manifest;
 mod need;
 mod requirement;
+mod shared;
 mod traits;
 mod uses;
 

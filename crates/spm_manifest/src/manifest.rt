@@ -30,7 +30,7 @@ impl Manifest {
     ///
     /// # Errors
     ///
-    /// The first fault in the reading order: its kind, and its place as a path from the document's root, which is `/`.
+    /// The first fault in the reading order: its kind, and its place as a path from the document's root, which is `/`; and `Memory`.
     #[tactic(auto, unfolding(crate::specs::Profile::manifest_of))]
     pub fn read(alloc: Global, bytes: &[u8]) -> Result<Manifest, ReadFault>
         ensures { Gives result (manifest_of bytes.now) }
@@ -83,20 +83,19 @@ impl Manifest {
     }
 
     /// A copy of the manifest.
+    ///
+    /// # Errors
+    ///
+    /// `NoMemory` alone.
     pub fn copy(&self, alloc: Global) -> Result<Manifest, NoMemory>
         ensures { IfOk result (λ copy. copy ≡ self.now) }
     {
-        let name = self.contents.name.copy(alloc)?;
-        let Ok(traits) = self.contents.traits.copy(alloc) else {
-            return Err(NoMemory);
-        };
-        let needs = self.contents.needs.copy(alloc)?;
         Ok(Manifest {
             contents: Contents {
-                name,
+                name: self.contents.name.copy(alloc)?,
                 tools: self.contents.tools,
-                traits,
-                needs,
+                traits: self.contents.traits.copy(alloc)?,
+                needs: self.contents.needs.copy(alloc)?,
             },
         })
     }

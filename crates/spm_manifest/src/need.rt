@@ -1,7 +1,7 @@
 ghost use Rattle.std.specs.Prelude.{◌≡◌, IfOk};
 
 use spm_ident::Identity;
-use spm_trait::{Listed, TraitName};
+use spm_trait::TraitName;
 use spm_version::{Duplicate, Items, NoMemory, Requirement, Text};
 use std::alloc::Global;
 
@@ -18,14 +18,15 @@ pub enum Target {
 
 impl Target {
     /// A copy of the target.
+    ///
+    /// # Errors
+    ///
+    /// `NoMemory` alone.
     pub fn copy(&self, alloc: Global) -> Result<Target, NoMemory>
         ensures { IfOk result (λ copy. copy ≡ self.now) }
     {
         match self {
-            Target::Registry(identity) => match identity.copy(alloc) {
-                Ok(identity) => Ok(Target::Registry(identity)),
-                Err(_) => Err(NoMemory),
-            },
+            Target::Registry(identity) => Ok(Target::Registry(identity.copy(alloc)?)),
             Target::Url(url) => Ok(Target::Url(url.copy(alloc)?)),
             Target::Local(path) => Ok(Target::Local(path.copy(alloc)?)),
         }
@@ -38,27 +39,21 @@ pub enum Guard {
     /// Always.
     Always,
     /// Where one of these traits of its package is enabled.
-    Any(Listed<TraitName>),
-}
-
-/// A copy of the names, with this crate's fault.
-fn copy_names(alloc: Global, names: &Listed<TraitName>) -> Result<Listed<TraitName>, NoMemory>
-    ensures { IfOk result (λ copy. copy ≡ names.now) }
-{
-    match names.copy(alloc) {
-        Ok(copy) => Ok(copy),
-        Err(_) => Err(NoMemory),
-    }
+    Any(Items<TraitName>),
 }
 
 impl Guard {
     /// A copy of the guard.
+    ///
+    /// # Errors
+    ///
+    /// `NoMemory` alone.
     pub fn copy(&self, alloc: Global) -> Result<Guard, NoMemory>
         ensures { IfOk result (λ copy. copy ≡ self.now) }
     {
         match self {
             Guard::Always => Ok(Guard::Always),
-            Guard::Any(names) => Ok(Guard::Any(copy_names(alloc, names)?)),
+            Guard::Any(names) => Ok(Guard::Any(names.copy(alloc)?)),
         }
     }
 }
@@ -68,19 +63,22 @@ impl Guard {
 pub struct Ask {
     pub name: TraitName,
     /// Where one of these traits is enabled; always, where there are none.
-    pub under: Listed<TraitName>,
+    pub under: Items<TraitName>,
 }
 
 impl Ask {
     /// A copy of what is asked.
+    ///
+    /// # Errors
+    ///
+    /// `NoMemory` alone.
     pub fn copy(&self, alloc: Global) -> Result<Ask, NoMemory>
         ensures { IfOk result (λ copy. copy ≡ self.now) }
     {
-        let Ok(name) = self.name.copy(alloc) else {
-            return Err(NoMemory);
-        };
-        let under = copy_names(alloc, &self.under)?;
-        Ok(Ask { name, under })
+        Ok(Ask {
+            name: self.name.copy(alloc)?,
+            under: self.under.copy(alloc)?,
+        })
     }
 }
 
@@ -101,18 +99,18 @@ pub struct Need {
 
 impl Need {
     /// A copy of the need.
+    ///
+    /// # Errors
+    ///
+    /// `NoMemory` alone.
     pub fn copy(&self, alloc: Global) -> Result<Need, NoMemory>
         ensures { IfOk result (λ copy. copy ≡ self.now) }
     {
-        let target = self.target.copy(alloc)?;
-        let requirement = self.requirement.copy(alloc)?;
-        let guard = self.guard.copy(alloc)?;
-        let asked = self.asked.copy(alloc)?;
         Ok(Need {
-            target,
-            requirement,
-            guard,
-            asked,
+            target: self.target.copy(alloc)?,
+            requirement: self.requirement.copy(alloc)?,
+            guard: self.guard.copy(alloc)?,
+            asked: self.asked.copy(alloc)?,
         })
     }
 }

@@ -3,7 +3,19 @@ ghost use Rattle.serde_json.specs.Find.{get};
 ghost use Rattle.serde_json.specs.View.{view};
 ghost use Rattle.spm_json.specs.Object.{data_of};
 ghost use Rattle.spm_json.specs.Reading.{Gives};
-ghost use Rattle.spm_manifest.specs.Requirement.{bounds_reading, branch_reading, by_branch, by_revision, exact_reading, no_branch, range_reading, registry_requirement, revision_reading, source_requirement, versions_reading};
+ghost use Rattle.spm_manifest.specs.Requirement.{
+  bounds_reading,
+  branch_reading,
+  by_branch,
+  by_revision,
+  exact_reading,
+  no_branch,
+  range_reading,
+  registry_requirement,
+  revision_reading,
+  source_requirement,
+  versions_reading,
+};
 
 use serde_json::Value;
 use spm_json::{FromJson, Object, ReadFault, sole_member};
@@ -28,7 +40,7 @@ impl FromJson for Bounds {
     }
 }
 
-/// The range that the member `range` is.
+// The range that the member `range` is.
 fn range(alloc: Global, value: &Value) -> Result<Requirement, ReadFault>
     ensures { Gives result (range_reading (view value.now)) }
 {
@@ -36,7 +48,7 @@ fn range(alloc: Global, value: &Value) -> Result<Requirement, ReadFault>
     Ok(Requirement::Range(bounds.lower, bounds.upper))
 }
 
-/// The one version that the member `exact` is.
+// The one version that the member `exact` is.
 fn exact(alloc: Global, value: &Value) -> Result<Requirement, ReadFault>
     ensures { Gives result (exact_reading (view value.now)) }
 {
@@ -44,7 +56,7 @@ fn exact(alloc: Global, value: &Value) -> Result<Requirement, ReadFault>
     Ok(Requirement::Exact(release))
 }
 
-/// The branch that the member `branch` is.
+// The branch that the member `branch` is.
 fn branch(alloc: Global, value: &Value) -> Result<Requirement, ReadFault>
     ensures { Gives result (branch_reading (view value.now)) }
 {
@@ -52,7 +64,7 @@ fn branch(alloc: Global, value: &Value) -> Result<Requirement, ReadFault>
     Ok(Requirement::Branch(name))
 }
 
-/// The revision that the member `revision` is.
+// The revision that the member `revision` is.
 fn revision(alloc: Global, value: &Value) -> Result<Requirement, ReadFault>
     ensures { Gives result (revision_reading (view value.now)) }
 {
@@ -60,7 +72,7 @@ fn revision(alloc: Global, value: &Value) -> Result<Requirement, ReadFault>
     Ok(Requirement::Revision(name))
 }
 
-/// The versions that are required, where it is versions.
+// The versions that are required, where it is versions.
 fn versions(alloc: Global, object: &Object) -> Result<Option<Requirement>, ReadFault>
     ensures { Gives result (versions_reading (data_of object.now)) }
 {
@@ -77,15 +89,15 @@ fn versions(alloc: Global, object: &Object) -> Result<Option<Requirement>, ReadF
     }
 }
 
-/// Why a package of the registry is required without versions.
+// Why a package of the registry is required without versions.
 fn no_versions(alloc: Global, object: &Object) -> Result<Requirement, ReadFault>
     ensures { Gives result (no_branch (get (codes "branch") (data_of object.now)) (data_of object.now)) }
 {
     if object.get("branch").is_some() {
-        return Err(ReadFault::here(alloc, Kind::WrongKind).under_key(alloc, "branch"));
+        return Err(ReadFault::of_member(alloc, Kind::WrongKind, "branch"));
     }
     if object.get("revision").is_some() {
-        return Err(ReadFault::here(alloc, Kind::WrongKind).under_key(alloc, "revision"));
+        return Err(ReadFault::of_member(alloc, Kind::WrongKind, "revision"));
     }
     Err(ReadFault::here(alloc, Kind::Missing))
 }
@@ -109,7 +121,7 @@ impl FromJson for RegistryRequirement {
     }
 }
 
-/// The branch or the revision at which a repository is required.
+// The branch or the revision at which a repository is required.
 fn commit(alloc: Global, object: &Object) -> Result<Requirement, ReadFault>
     ensures { Gives result (by_branch (get (codes "branch") (data_of object.now)) (data_of object.now)) }
 {

@@ -1,15 +1,23 @@
+ghost use Rattle.std.specs.Str.{bytes_eq};
 ghost use Rattle.std.specs.Prelude.{◌≡◌, ◌||◌, ℕ, List, [], codes, map, IfOk};
 ghost use Rattle.serde_json.specs.View.{view};
-ghost use Rattle.spm_json.specs.Names.{has_name, same_name};
+ghost use Rattle.spm_json.specs.Names.{has_name};
 ghost use Rattle.spm_json.specs.Reading.{Gives};
 ghost use Rattle.spm_json.specs.Field.{field_of};
 ghost use Rattle.spm_json.specs.Object.{data_of};
-ghost use Rattle.spm_manifest.specs.Traits.{condition_reading, declared_reading, entries_after, entry_reading, new_trait_reading, or_nothing};
+ghost use Rattle.spm_manifest.specs.Traits.{
+  condition_reading,
+  declared_reading,
+  entries_after,
+  entry_reading,
+  new_trait_reading,
+  or_nothing,
+};
 
 use serde_json::Value;
-use spm_json::{FromJson, Names, Object, ReadFault, limited_list};
-use spm_trait::{Listed, TraitEntry, TraitName, Traits};
-use spm_version::Kind;
+use spm_json::{FromJson, Names, Object, ReadFault, at_index, limited_list, within};
+use spm_trait::{TraitEntry, TraitName, Traits};
+use spm_version::{Items, Kind};
 use std::alloc::Global;
 
 /// How many traits a manifest may declare.
@@ -18,7 +26,7 @@ const MAX_TRAITS: usize = 300;
 /// The traits of a condition. None is no condition.
 #[derive(Debug, Drop)]
 pub struct Condition {
-    pub traits: Listed<TraitName>,
+    pub traits: Items<TraitName>,
 }
 
 impl FromJson for Condition {
@@ -26,27 +34,27 @@ impl FromJson for Condition {
 
     fn from_json(alloc: Global, value: &Value) -> Result<Condition, ReadFault> {
         let object = Object::of(alloc, value)?;
-        let traits: Option<Listed<TraitName>> = object.optional_field("traits")?;
+        let traits: Option<Items<TraitName>> = object.optional_field("traits")?;
         Ok(Condition {
             traits: or_no_names(alloc, traits),
         })
     }
 }
 
-/// The names, or none.
-fn or_no_names(alloc: Global, names: Option<Listed<TraitName>>) -> Listed<TraitName>
+// The names, or none.
+fn or_no_names(alloc: Global, names: Option<Items<TraitName>>) -> Items<TraitName>
     ensures { result ≡ or_nothing names }
 {
     match names {
         Some(names) => names,
-        None => Listed::from_vec(Vec::new(alloc)),
+        None => Items::from_vec(Vec::new(alloc)),
     }
 }
 
-/// A trait's name that isn't among these, which it then joins.
+// A trait's name that isn't among these, which it then joins.
 fn new_trait(alloc: Global, names: &mut Names, value: &Value) -> Result<TraitName, ReadFault>
     ensures read { Gives result (new_trait_reading (has_name names.old) (view value.now)) }
-    ensures names { IfOk result (λ name. (other : List ℕ) → has_name names.new other ≡ (same_name name other || has_name names.old other)) }
+    ensures names { IfOk result (λ name. (other : List ℕ) → has_name names.new other ≡ (bytes_eq name other || has_name names.old other)) }
 {
     let name = TraitName::from_json(alloc, value)?;
     if names.insert(alloc, name.text())? {
@@ -56,47 +64,41 @@ fn new_trait(alloc: Global, names: &mut Names, value: &Value) -> Result<TraitNam
     }
 }
 
-/// The name of an entry, under its key.
+// The name of an entry, under its key.
 fn new_name(alloc: Global, names: &mut Names, object: &Object) -> Result<TraitName, ReadFault>
     ensures read { Gives result (field_of (new_trait_reading (has_name names.old)) (codes "name") (data_of object.now)) }
-    ensures names { IfOk result (λ name. (other : List ℕ) → has_name names.new other ≡ (same_name name other || has_name names.old other)) }
+    ensures names { IfOk result (λ name. (other : List ℕ) → has_name names.new other ≡ (bytes_eq name other || has_name names.old other)) }
 {
     match object.get("name") {
-        Some(value) => match new_trait(alloc, names, value) {
-            Ok(name) => Ok(name),
-            Err(fault) => Err(fault.under_key(alloc, "name")),
-        },
-        None => Err(ReadFault::here(alloc, Kind::Missing).under_key(alloc, "name")),
+        Some(value) => within(alloc, "name", new_trait(alloc, names, value)),
+        None => Err(ReadFault::of_member(alloc, Kind::Missing, "name")),
     }
 }
 
-/// A declared trait, whose name isn't among these, which it then joins.
+// A declared trait, whose name isn't among these, which it then joins.
 fn entry(alloc: Global, names: &mut Names, value: &Value) -> Result<TraitEntry, ReadFault>
     ensures read { Gives result (entry_reading (has_name names.old) (view value.now)) }
-    ensures names { IfOk result (λ entry. (other : List ℕ) → has_name names.new other ≡ (same_name entry.name other || has_name names.old other)) }
+    ensures names { IfOk result (λ entry. (other : List ℕ) → has_name names.new other ≡ (bytes_eq entry.name other || has_name names.old other)) }
 {
     let object = Object::of(alloc, value)?;
     let name = new_name(alloc, names, &object)?;
-    let enables: Option<Listed<TraitName>> = object.optional_field("enabledTraits")?;
+    let enables: Option<Items<TraitName>> = object.optional_field("enabledTraits")?;
     Ok(TraitEntry {
         name,
         enables: or_no_names(alloc, enables),
     })
 }
 
-/// The entries that these items are.
-fn each_entry(alloc: Global, values: &[Value]) -> Result<Listed<TraitEntry>, ReadFault>
+// The entries that these items are.
+fn each_entry(alloc: Global, values: &[Value]) -> Result<Items<TraitEntry>, ReadFault>
     ensures { Gives result (entries_after [] (map view values.now)) }
 {
     let mut names = Names::new(alloc);
     let mut read = Vec::new(alloc);
     for (index, item) in values.iter().enumerate() {
-        match entry(alloc, &mut names, item) {
-            Ok(x) => read.push(x)?,
-            Err(fault) => return Err(fault.under_index(alloc, index)),
-        }
+        read.push(at_index(alloc, index, entry(alloc, &mut names, item))?)?;
     }
-    Ok(Listed::from_vec(read))
+    Ok(Items::from_vec(read))
 }
 
 /// The list `traits`.

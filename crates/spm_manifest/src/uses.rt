@@ -2,13 +2,23 @@ ghost use Rattle.std.specs.Prelude.{◌≡◌, codes, map, option_map, option_an
 ghost use Rattle.serde_json.specs.Find.{as_str, get};
 ghost use Rattle.serde_json.specs.View.{view};
 ghost use Rattle.spm_json.specs.Object.{data_of};
-ghost use Rattle.spm_json.specs.Reading.{Gives, at_index, within};
-ghost use Rattle.spm_manifest.specs.Uses.{by_name, condition_in, item_at, name_in, name_reading, package_in, product_in, product_reading, target_reading, text_in, use_reading};
+ghost use Rattle.spm_json.specs.Reading.{Gives, at_index};
+ghost use Rattle.spm_manifest.specs.Uses.{
+  by_name,
+  condition_in,
+  item_at,
+  name_reading,
+  package_in,
+  product_reading,
+  target_reading,
+  text_in,
+  use_reading,
+};
 
 use crate::traits::Condition;
 use serde_json::Value;
-use spm_json::{FromJson, Object, ReadFault, list};
-use spm_trait::{Listed, TraitName};
+use spm_json::{FromJson, Object, ReadFault, item_as, list, within};
+use spm_trait::TraitName;
 use spm_version::{Items, Kind, NoMemory, Text};
 use std::alloc::Global;
 
@@ -34,10 +44,10 @@ pub enum Named {
 pub struct Use {
     pub named: Named,
     /// The traits under which it counts; none where it always does.
-    pub condition: Listed<TraitName>,
+    pub condition: Items<TraitName>,
 }
 
-/// The item at this place, where there is one.
+// The item at this place, where there is one.
 #[tactic(auto, using(crate::proofs::Places::item_there, crate::proofs::Places::item_absent))]
 fn item<'v>(items: &'v [Value], index: usize) -> Option<&'v Value>
     ensures { option_map (λ v. view v.now) result ≡ slice_get (map view items.now) index }
@@ -49,7 +59,7 @@ fn item<'v>(items: &'v [Value], index: usize) -> Option<&'v Value>
     }
 }
 
-/// The item at this place, where it is there and not null.
+// The item at this place, where it is there and not null.
 fn item_at<'v>(items: &'v [Value], index: usize) -> Option<&'v Value>
     ensures { option_map (λ v. view v.now) result ≡ item_at index (map view items.now) }
 {
@@ -59,52 +69,46 @@ fn item_at<'v>(items: &'v [Value], index: usize) -> Option<&'v Value>
     }
 }
 
-/// The name at the front of a use.
+// The name at the front of a use.
 fn name_at(alloc: Global, items: &[Value]) -> Result<Text, ReadFault>
     ensures { Gives result (at_index 0 (text_in (item_at 0 (map view items.now)))) }
 {
-    let fault = match item_at(items, 0) {
-        Some(value) => match Text::from_json(alloc, value) {
-            Ok(name) => return Ok(name),
-            Err(fault) => fault,
-        },
-        None => ReadFault::here(alloc, Kind::WrongKind),
-    };
-    Err(fault.under_index(alloc, 0))
+    match item_at(items, 0) {
+        Some(value) => item_as(alloc, 0, value),
+        None => Err(ReadFault::here(alloc, Kind::WrongKind).under_index(alloc, 0)),
+    }
 }
 
-/// The package behind the name of a use.
+// The package behind the name of a use.
 fn package_at(alloc: Global, items: &[Value]) -> Result<Named, ReadFault>
     ensures { Gives result (at_index 1 (package_in (item_at 1 (map view items.now)))) }
 {
     match item_at(items, 1) {
-        Some(value) => match Text::from_json(alloc, value) {
-            Ok(name) => Ok(Named::Package(name)),
-            Err(fault) => Err(fault.under_index(alloc, 1)),
-        },
+        Some(value) => {
+            let name: Text = item_as(alloc, 1, value)?;
+            Ok(Named::Package(name))
+        }
         None => Ok(Named::Everything),
     }
 }
 
-/// The condition at this place of a use.
+// The condition at this place of a use.
 fn condition_at(alloc: Global, items: &[Value], index: usize) -> Result<Condition, ReadFault>
     ensures { Gives result (at_index index (condition_in (item_at index (map view items.now)))) }
 {
     match item_at(items, index) {
-        Some(value) => match Condition::from_json(alloc, value) {
-            Ok(condition) => Ok(condition),
-            Err(fault) => Err(fault.under_index(alloc, index)),
-        },
+        Some(value) => item_as(alloc, index, value),
         None => Ok(Condition {
-            traits: Listed::from_vec(Vec::new(alloc)),
+            traits: Items::from_vec(Vec::new(alloc)),
         }),
     }
 }
 
-/// A use of a product.
-fn product(alloc: Global, items: &[Value]) -> Result<Use, ReadFault>
-    ensures { Gives result (product_in (map view items.now)) }
+// A use of a product.
+fn product(alloc: Global, value: &Value) -> Result<Use, ReadFault>
+    ensures { Gives result (product_reading (view value.now)) }
 {
+    let items = list(alloc, value)?.as_slice();
     if items.len() > PRODUCT_ITEMS {
         return Err(ReadFault::here(alloc, Kind::WrongKind));
     }
@@ -117,10 +121,11 @@ fn product(alloc: Global, items: &[Value]) -> Result<Use, ReadFault>
     })
 }
 
-/// A use by name.
-fn by_name(alloc: Global, items: &[Value]) -> Result<Use, ReadFault>
-    ensures { Gives result (name_in (map view items.now)) }
+// A use by name.
+fn by_name(alloc: Global, value: &Value) -> Result<Use, ReadFault>
+    ensures { Gives result (name_reading (view value.now)) }
 {
+    let items = list(alloc, value)?.as_slice();
     if items.len() > NAME_ITEMS {
         return Err(ReadFault::here(alloc, Kind::WrongKind));
     }
@@ -132,46 +137,18 @@ fn by_name(alloc: Global, items: &[Value]) -> Result<Use, ReadFault>
     })
 }
 
-/// The use that the member `product` is.
-fn product_of(alloc: Global, value: &Value) -> Result<Use, ReadFault>
-    ensures { Gives result (within (codes "product") (product_reading (view value.now))) }
-{
-    let found = match list(alloc, value) {
-        Ok(items) => product(alloc, items.as_slice()),
-        Err(fault) => Err(fault),
-    };
-    match found {
-        Ok(found) => Ok(found),
-        Err(fault) => Err(fault.under_key(alloc, "product")),
-    }
-}
-
-/// The use that the member `byName` is.
-fn name_of(alloc: Global, value: &Value) -> Result<Use, ReadFault>
-    ensures { Gives result (within (codes "byName") (name_reading (view value.now))) }
-{
-    let found = match list(alloc, value) {
-        Ok(items) => by_name(alloc, items.as_slice()),
-        Err(fault) => Err(fault),
-    };
-    match found {
-        Ok(found) => Ok(found),
-        Err(fault) => Err(fault.under_key(alloc, "byName")),
-    }
-}
-
 /// A use, or none where it is of a target of this manifest.
 #[derive(Debug, Drop)]
 pub struct OptionalUse {
     pub found: Option<Use>,
 }
 
-/// The use that the member `byName` or `target` is, or one of every dependency.
+// The use that the member `byName` or `target` is, or one of every dependency.
 fn other_use(alloc: Global, object: &Object) -> Result<OptionalUse, ReadFault>
     ensures { Gives result (by_name (get (codes "byName") (data_of object.now)) (data_of object.now)) }
 {
     if let Some(value) = object.get("byName") {
-        let found = name_of(alloc, value)?;
+        let found = within(alloc, "byName", by_name(alloc, value))?;
         return Ok(OptionalUse { found: Some(found) });
     }
     match object.get("target") {
@@ -179,7 +156,7 @@ fn other_use(alloc: Global, object: &Object) -> Result<OptionalUse, ReadFault>
         None => Ok(OptionalUse {
             found: Some(Use {
                 named: Named::Everything,
-                condition: Listed::from_vec(Vec::new(alloc)),
+                condition: Items::from_vec(Vec::new(alloc)),
             }),
         }),
     }
@@ -192,7 +169,7 @@ impl FromJson for OptionalUse {
         let object = Object::of(alloc, value)?;
         match object.get("product") {
             Some(value) => {
-                let found = product_of(alloc, value)?;
+                let found = within(alloc, "product", product(alloc, value))?;
                 Ok(OptionalUse { found: Some(found) })
             }
             None => other_use(alloc, &object),
@@ -207,7 +184,7 @@ pub struct UsingTarget {
     pub uses: Items<OptionalUse>,
 }
 
-/// The text under the key `name`, where there is one.
+// The text under the key `name`, where there is one.
 fn name_text(alloc: Global, object: &Object) -> Result<Option<Text>, NoMemory>
     ensures { IfOk result (λ name. name ≡ option_and_then as_str (get (codes "name") (data_of object.now))) }
 {

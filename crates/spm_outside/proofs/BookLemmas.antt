@@ -24,6 +24,7 @@ use denote.Ref.{Bor}
 
 -- ---- the order
 
+-- the order of authorities with requests is total
 key_cmp_total : IsTotalOrder key_cmp
 key_cmp_total =
     then_total
@@ -31,12 +32,15 @@ key_cmp_total =
     (then_total (on_total (λ (to : Authority). to.host) nat_list_cmp_total) (on_total (λ (to : Authority). to.port) nat_cmp_total)))
     (on_total (λ (key : Authority × List ℕ). key.1) nat_list_cmp_total)
 
+-- and so is that of what may be absent
 key_at_total : IsTotalOrder (option_cmp key_cmp)
 key_at_total = options_total key_cmp_total
 
+-- places are sorted by a strict weak order
 pub place_cmp_weak : (entries : List Entry) → IsStrictWeakOrder (λ first second. is_lt (place_cmp entries first second))
 place_cmp_weak entries = ranks_by (then_total (on_total (key_at entries) key_at_total) nat_cmp_total) (λ place. place)
 
+-- an entry is for a request exactly where the order doesn't tell them apart
 is_for-key_cmp : (to : Authority) (request : List ℕ) (entry : Entry) → is_for to request entry ≡ is_eq (key_cmp (entry.to, entry.request) (to, request))
 is_for-key_cmp to request entry =
     both_tied _ _ (authority_cmp entry.to to) (slice_cmp nat_cmp entry.request request)
@@ -45,12 +49,15 @@ is_for-key_cmp to request entry =
 
 -- ---- the entry that a look-up finds
 
+-- an item that was lent stands there
 pub item_some : {X : Type 0} (xs : List X) (i : ℕ) (item : Bor X) → IsItemAt xs i (Some item) → slice_get xs i ≡ Some item.now
 item_some xs i item is = slice_get_read xs (length xs) i item.now refl is.3.0 is.1
 
+-- none is lent behind the last
 pub item_none : {X : Type 0} (xs : List X) (i : ℕ) → IsItemAt xs i None → slice_get xs i ≡ None
 item_none xs i is = slice_get_past xs i is.3
 
+-- what was lent on a condition, copied
 pub copied-then_some : {X : Type 0} (b : Bool) (item : Bor X) → option_copied (then_some b item) ≡ cond b (Some item.now) None
 copied-then_some true item = refl
 copied-then_some false item = refl
@@ -135,6 +142,7 @@ module _ (entries : List Entry) (to : Authority) (request : List ℕ) where
         pub finds_there : (entry : Entry) → slice_get entries place ≡ Some entry → find (is_for to request) entries ≡ cond (is_for to request entry) (Some entry) None
         finds_there entry is = find_by entry _ is refl
 
+-- the response is that of the first entry for the request
 response_in-find : (entries : List Entry) (other : List ℕ) (to : Authority) (request : List ℕ)
     → response_in entries other to request ≡ option_map_or (λ entry. entry.response) (find (is_for to request) entries) other
 response_in-find [] other to request = refl
@@ -145,6 +153,7 @@ response_in-find (entry ∷ entries) other to request =
       | false ↦ response_in-find entries other to request
     ]
 
+-- so whatever found that entry gives the response
 pub response_found : (entries : List Entry) (other : List ℕ) (to : Authority) (request : List ℕ) (found : Option Entry)
     → found ≡ find (is_for to request) entries → option_map_or (λ entry. entry.response) found other ≡ response_in entries other to request
 response_found entries other to request found is =
@@ -152,5 +161,6 @@ response_found entries other to request found is =
 
 -- ---- the places before they are sorted
 
+-- each place below the count is among the places
 pub all_places : (count place : ℕ) → place < count → Contains (range_with_len 0 count) place
 all_places count place within = (place, rw length-range_with_len within, get_or-range_with_len 0 count place place within ∙ (omega arith))

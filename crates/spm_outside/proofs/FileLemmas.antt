@@ -10,6 +10,7 @@ use Rattle.std.specs.Ordering.{eq_by_cmp, is_eq, nat_cmp}
 use Rattle.std.specs.Prelude.{String, bytes_eq, string_cmp}
 use Rattle.spm_outside.specs.Files.{files_of}
 
+-- the map of a list of files finds what the list has
 find-map : {A : Type 0} (entries : List (String A × List ℕ)) (name : List ℕ) → finite.find (slice_cmp nat_cmp) name (map (λ entry. (string_bytes entry.0, entry.1)) entries) ≡ lookup (λ key. is_eq (slice_cmp nat_cmp name (string_bytes key))) entries
 find-map [] name = refl
 find-map (entry ∷ entries) name =

@@ -8,16 +8,19 @@ use Rattle.std.specs.Ordering.{is_eq, is_lt, nat_cmp, ordering_reverse, ordering
 use Rattle.std.specs.declared.cmp.Ordering.{Ordering}
 use Rattle.std.specs.declared.cmp.Ordering.TheVariants.{Equal, Greater, Less}
 
+-- an answer that is equal
 pub equal_from : (r : Ordering) → is_eq r ≡ true → r ≡ Equal
 equal_from Less h = absurd (true≢false (sym h))
 equal_from Equal h = refl
 equal_from Greater h = absurd (true≢false (sym h))
 
+-- an answer that is less
 less_from : (r : Ordering) → is_lt r ≡ true → r ≡ Less
 less_from Less h = refl
 less_from Equal h = absurd (true≢false (sym h))
 less_from Greater h = absurd (true≢false (sym h))
 
+-- what isn't below is at least as great
 not_below : (first second : ℕ) → is_lt (nat_cmp first second) ≡ false → second ≤ first
 not_below first second above = grind arith
 

@@ -9,6 +9,7 @@ within_more bytes done count within takes =
     let rest : count ≤ length (drop done bytes) = rw take_rest at takes in
     omega (arith, length-drop done bytes)
 
+-- two pieces in a row are one longer piece
 both_written : (written : Option (List ℕ)) (bytes : List ℕ) (done count : ℕ) → option_map (λ old. old ++ take count (drop done bytes)) (option_map (λ old. old ++ take done bytes) written) ≡ option_map (λ old. old ++ take (done + count) bytes) written
 both_written None bytes done count = refl
 both_written (Some old) bytes done count =

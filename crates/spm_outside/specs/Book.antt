@@ -1,6 +1,6 @@
 -- A book: what a registry answers to each request, as fixed replies.
-use Rattle.std.specs.Prelude.{ℕ, ◌==◌, ◌&&◌, List, [], ◌∷◌, Bool, nat_eq, if◌then◌else◌}
-use Rattle.std.specs.Cmp.Lexicographic.{pointwise}
+use Rattle.std.specs.Str.{bytes_eq}
+use Rattle.std.specs.Prelude.{ℕ, ◌==◌, ◌&&◌, List, [], ◌∷◌, Bool, if◌then◌else◌}
 use Rattle.spm_outside.specs.declared.book.Authority.{Authority}
 use Rattle.spm_outside.specs.declared.book.Entry.{Entry}
 
@@ -10,10 +10,10 @@ pub record Pages : Type 0 where
   pub other : List ℕ
 
 abbrev pub same_authority : Authority → Authority → Bool
-same_authority first second = pointwise nat_eq first.host second.host && first.port == second.port
+same_authority first second = bytes_eq first.host second.host && first.port == second.port
 
 abbrev pub is_for : Authority → List ℕ → Entry → Bool
-is_for to request entry = same_authority entry.to to && pointwise nat_eq entry.request request
+is_for to request entry = same_authority entry.to to && bytes_eq entry.request request
 
 -- the response of the first entry with this authority and request, or else the other one
 abbrev pub response_in : List Entry → List ℕ → Authority → List ℕ → List ℕ

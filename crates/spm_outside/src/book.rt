@@ -14,6 +14,10 @@ pub struct Authority {
 
 impl Authority {
     /// A copy of the authority.
+    ///
+    /// # Errors
+    ///
+    /// `NoMemory` alone.
     pub fn copy(&self, alloc: Global) -> Result<Authority, NoMemory>
         ensures { IfOk result (λ authority. authority ≡ self.now) }
     {
@@ -43,6 +47,10 @@ impl Entry {
     ghost use Rattle.spm_outside.specs.Book.{is_for};
 
     /// A copy of the entry.
+    ///
+    /// # Errors
+    ///
+    /// `NoMemory` alone.
     pub fn copy(&self, alloc: Global) -> Result<Entry, NoMemory>
         ensures { IfOk result (λ entry. entry ≡ self.now) }
     {
@@ -137,6 +145,10 @@ impl Book {
     }
 
     /// A copy of the book.
+    ///
+    /// # Errors
+    ///
+    /// `NoMemory` alone.
     pub fn copy(&self, alloc: Global) -> Result<Book, NoMemory>
         ensures { IfOk result (λ book. book ≡ self.now) }
     {

@@ -1,6 +1,15 @@
 ghost use Rattle.std.specs.Prelude.{◌≡◌, ◌≢◌, ◌<◌, ◌↔◌, [], Err, IfOk, IsErr, IsErrOf, IsTrue, Some, length};
-ghost use Rattle.spm_outside.specs.Link.{LinkFaultsAfter, RestAfterOpen, RestAfterRead, calls_after_open, calls_after_read, last_failed};
-ghost use Rattle.spm_outside.specs.Memory.{book_of_link, calls_of_link, faults_of_link, plan_of_link, rest_of_link};
+ghost use Rattle.spm_outside.specs.Faults.{FaultsAfter};
+ghost use Rattle.spm_outside.specs.Link.{
+  RestAfterOpen,
+  RestAfterRead,
+  calls_after_open,
+  calls_after_read,
+  last_failed,
+  taken_after_open,
+  taken_after_read,
+};
+ghost use Rattle.spm_outside.specs.Memory.{plan_of_link, state_of_link};
 ghost use Rattle.spm_outside.specs.Schedule.{after_call, fails_next};
 
 use crate::book::{Authority, Book};
@@ -15,7 +24,9 @@ use std::alloc::Global;
 pub struct BookLink<'b> {
     alloc: Global,
     book: &'b Book,
-    rest: &'b [u8],
+    // The last response, and how many bytes of it were read.
+    response: &'b [u8],
+    taken: usize,
     calls: Vec<Call>,
     faults: u64,
     schedule: Schedule,
@@ -23,18 +34,21 @@ pub struct BookLink<'b> {
 
 impl<'b> BookLink<'b> {
     /// A link to this book with no calls made, whose calls with these numbers fail.
+    ///
+    /// # Errors
+    ///
+    /// `NoMemory` alone.
     pub fn new(alloc: Global, book: &'b Book, failing: &[u64]) -> Result<BookLink<'b>, NoMemory>
-        ensures book { IfOk result (λ link. ⟦<BookLink<'b> as Link>⟧.book link ≡ Some book.now) }
-        ensures calls { IfOk result (λ link. ⟦<BookLink<'b> as Link>⟧.calls link ≡ Some []) }
-        ensures rest { IfOk result (λ link. ⟦<BookLink<'b> as Link>⟧.rest link ≡ Some []) }
-        ensures faults { IfOk result (λ link. ⟦<BookLink<'b> as Link>⟧.faults link ≡ 0) }
+        ensures state { IfOk result (λ link. state_of_link link
+            ≡ record { book = Some book.now; calls = Some []; taken = Some 0; rest = Some []; faults = 0 }) }
         ensures plan { IfOk result (λ link. plan_of_link link ≡ record { failing = failing.now; calls = 0 }) }
     {
         let schedule = Schedule::new(alloc, failing)?;
         Ok(BookLink {
             alloc,
             book,
-            rest: &[],
+            response: &[],
+            taken: 0,
             calls: Vec::new(alloc),
             faults: 0,
             schedule,
@@ -43,16 +57,23 @@ impl<'b> BookLink<'b> {
 
     /// The calls made, in their order.
     pub fn calls(&self) -> &[Call]
-        ensures { result.now ≡ calls_of_link self.now }
+        ensures { Some result.now ≡ (state_of_link self.now).calls }
     {
         self.calls.as_slice()
     }
 
     /// How many opens and reads failed, up to the greatest u64.
     pub fn faults(&self) -> u64
-        ensures { result ≡ faults_of_link self.now }
+        ensures { result ≡ (state_of_link self.now).faults }
     {
         self.faults
+    }
+
+    // The bytes of the last response that are left to read.
+    fn rest(&self) -> &'b [u8]
+        ensures { Some result.now ≡ (state_of_link self.now).rest }
+    {
+        self.response.get(self.taken..).unwrap_or(&[])
     }
 }
 
@@ -66,25 +87,20 @@ fn mark_last(calls: &mut Vec<Call>)
 }
 
 impl<'b> Link for BookLink<'b> {
-    ghost book = { λ link. Some (book_of_link link) };
-
-    ghost calls = { λ link. Some (calls_of_link link) };
-
-    ghost rest = { λ link. Some (rest_of_link link) };
-
-    ghost faults = { faults_of_link };
+    ghost state = { state_of_link };
 
     ghost use Rattle.std.specs.Prelude.{refl};
 
-    ghost tells_all = { λ link told. (refl, refl) };
+    ghost tells_all = { λ link told. (refl, refl, refl) };
 
     fn open(&mut self, to: &Authority, request: &[u8]) -> Result<(), LinkFault>
-        ensures book { book_of_link self.new ≡ book_of_link self.old }
-        ensures calls { Some (calls_of_link self.new)
-            ≡ calls_after_open result to.now request.now (Some (calls_of_link self.old)) }
-        ensures rest { RestAfterOpen result (Some (book_of_link self.old)) to.now request.now
-            (Some (rest_of_link self.old)) (Some (rest_of_link self.new)) }
-        ensures faults { LinkFaultsAfter result (faults_of_link self.old) (faults_of_link self.new) }
+        ensures book { (state_of_link self.new).book ≡ (state_of_link self.old).book }
+        ensures calls { (state_of_link self.new).calls
+            ≡ calls_after_open result to.now request.now (state_of_link self.old).calls }
+        ensures taken { (state_of_link self.new).taken ≡ taken_after_open result (state_of_link self.old).taken }
+        ensures rest { RestAfterOpen result (state_of_link self.old).book to.now request.now
+            (state_of_link self.old).rest (state_of_link self.new).rest }
+        ensures faults { FaultsAfter result (state_of_link self.old).faults (state_of_link self.new).faults }
 
         // A listed call fails, or has no memory to record it, and no other call fails.
         ensures fails { IsErrOf result LinkFault.Failed → IsTrue (fails_next (plan_of_link self.old)) }
@@ -98,24 +114,26 @@ impl<'b> Link for BookLink<'b> {
             failed,
         };
         self.calls.push(call)?;
+        self.taken = 0;
         if failed {
-            self.rest = &[];
+            self.response = &[];
             self.faults = self.faults.saturating_add(1);
             return Err(LinkFault::Failed);
         }
         let book = self.book;
-        self.rest = book.response(to, request);
+        self.response = book.response(to, request);
         Ok(())
     }
 
     fn read(&mut self, piece: &mut [u8]) -> Result<usize, LinkFault>
         requires { 0 < length piece.old }
-        ensures book { book_of_link self.new ≡ book_of_link self.old }
-        ensures calls { Some (calls_of_link self.new)
-            ≡ calls_after_read result (Some (calls_of_link self.old)) }
+        ensures book { (state_of_link self.new).book ≡ (state_of_link self.old).book }
+        ensures calls { (state_of_link self.new).calls
+            ≡ calls_after_read result (state_of_link self.old).calls }
+        ensures taken { (state_of_link self.new).taken ≡ taken_after_read result (state_of_link self.old).taken }
         ensures rest { RestAfterRead result piece.new
-            (Some (rest_of_link self.old)) (Some (rest_of_link self.new)) }
-        ensures faults { LinkFaultsAfter result (faults_of_link self.old) (faults_of_link self.new) }
+            (state_of_link self.old).rest (state_of_link self.new).rest }
+        ensures faults { FaultsAfter result (state_of_link self.old).faults (state_of_link self.new).faults }
 
         // Exactly the listed calls fail.
         ensures fails { IsErrOf result LinkFault.Failed ↔ IsTrue (fails_next (plan_of_link self.old)) }
@@ -127,11 +145,10 @@ impl<'b> Link for BookLink<'b> {
             self.faults = self.faults.saturating_add(1);
             return Err(LinkFault::Failed);
         }
-        let rest = self.rest;
+        let rest = self.rest();
         let count = piece.len().min(rest.len());
-        let (bytes, later) = rest.split_at(count);
-        piece[..count].copy_from_slice(bytes);
-        self.rest = later;
+        piece[..count].copy_from_slice(&rest[..count]);
+        self.taken += count;
         Ok(count)
     }
 }

@@ -1,56 +1,10 @@
-ghost use Rattle.std.specs.Prelude.{◌≡◌, ◌≢◌, ℕ, List, Option, Err, IfOk};
-ghost use Rattle.spm_outside.specs.Door.{DoorFaultsAfter, IsFresh, Visit, served_after};
-ghost use Rattle.spm_outside.specs.declared.door.DoorFault.TheVariants.{Failed, Memory};
+ghost use Rattle.std.specs.Prelude.{◌≡◌, ◌≢◌, Err, IfOk};
+ghost use Rattle.spm_outside.specs.Door.{DoorState, IsFresh, served_after};
+ghost use Rattle.spm_outside.specs.Faults.{FaultsAfter};
+ghost use Rattle.spm_outside.specs.declared.fault.CallFault.TheVariants.{Failed};
 
+pub use crate::fault::CallFault as DoorFault;
 use crate::peer::Peer;
-use spm_version::NoMemory;
-use std::alloc::{AllocError, AllocFailed};
-use std::error::Error;
-use std::fmt;
-
-/// Why a call of a door gave no answer.
-#[derive(Clone, Copy, Debug, PartialEq, Eq)]
-pub enum DoorFault {
-    /// The door failed.
-    Failed,
-    /// There was no memory.
-    Memory,
-}
-
-impl fmt::Display for DoorFault {
-    fn fmt<W: fmt::Write>(&self, f: &mut fmt::Formatter<W>) -> fmt::Result {
-        f.write_str(match self {
-            DoorFault::Failed => "the door failed",
-            DoorFault::Memory => "no memory",
-        })
-    }
-}
-
-impl Error for DoorFault {}
-
-impl From<NoMemory> for DoorFault {
-    ghost from_gives = { λ _ fault. fault ≡ Memory };
-
-    fn from(_e: NoMemory) -> DoorFault {
-        DoorFault::Memory
-    }
-}
-
-impl From<AllocError> for DoorFault {
-    ghost from_gives = { λ _ fault. fault ≡ Memory };
-
-    fn from(_e: AllocError) -> DoorFault {
-        DoorFault::Memory
-    }
-}
-
-impl<T: Drop> From<AllocFailed<T>> for DoorFault {
-    ghost from_gives = { λ _ fault. fault ≡ Memory };
-
-    fn from(_e: AllocFailed<T>) -> DoorFault {
-        DoorFault::Memory
-    }
-}
 
 /// Where a server's connections come from, and where they go when they are served.
 ///
@@ -58,9 +12,7 @@ impl<T: Drop> From<AllocFailed<T>> for DoorFault {
 pub trait Door {
     type Peer: Peer + Drop;
 
-    ghost served: { Self → Option (List Visit) };
-
-    ghost faults: { Self → ℕ };
+    ghost state: { Self → DoorState };
 
     /// Listens on this port.
     ///
@@ -68,8 +20,8 @@ pub trait Door {
     ///
     /// `Failed` where the door failed, and `Memory`.
     fn bind(&mut self, port: u16) -> Result<(), DoorFault>
-        ensures served { served self.new ≡ served self.old }
-        ensures faults { DoorFaultsAfter result (faults self.old) (faults self.new) };
+        ensures served { (state self.new).served ≡ (state self.old).served }
+        ensures faults { FaultsAfter result (state self.old).faults (state self.new).faults };
 
     /// The next peer. It has counted no fault and, where it tells, has taken and written nothing.
     ///
@@ -77,14 +29,9 @@ pub trait Door {
     ///
     /// `Failed` where the door failed, and `Memory`.
     fn next(&mut self) -> Result<Self::Peer, DoorFault>
-        ensures fresh { IfOk result (λ peer. IsFresh (record {
-          taken = Self.Peer.taken peer;
-          rest = Self.Peer.rest peer;
-          written = Self.Peer.written peer;
-          faults = Self.Peer.faults peer;
-        })) }
-        ensures served { served self.new ≡ served self.old }
-        ensures faults { DoorFaultsAfter result (faults self.old) (faults self.new) };
+        ensures fresh { IfOk result (λ peer. IsFresh (Self.Peer.state peer)) }
+        ensures served { (state self.new).served ≡ (state self.old).served }
+        ensures faults { FaultsAfter result (state self.old).faults (state self.new).faults };
 
     /// Takes a peer back that was served. It never answers `Failed`.
     ///
@@ -93,12 +40,6 @@ pub trait Door {
     /// `Memory` alone; the peer is gone then.
     fn done(&mut self, peer: Self::Peer) -> Result<(), DoorFault>
         ensures answer { result ≢ Err Failed }
-        ensures served { served self.new ≡ served_after result (record {
-          taken = Self.Peer.taken peer;
-          rest = Self.Peer.rest peer;
-          written = Self.Peer.written peer;
-          faults = Self.Peer.faults peer;
-        })
-            (served self.old) }
-        ensures faults { faults self.new ≡ faults self.old };
+        ensures served { (state self.new).served ≡ served_after result (Self.Peer.state peer) (state self.old).served }
+        ensures faults { (state self.new).faults ≡ (state self.old).faults };
 }

@@ -27,7 +27,7 @@ impl Model for Files {
 }
 
 impl Files {
-    /// No files.
+    // No files.
     pub(crate) fn new(alloc: Global) -> Files
         ensures { result ≡ map.empty }
     {
@@ -36,14 +36,14 @@ impl Files {
         }
     }
 
-    /// The file with this name, if there is one.
+    // The file with this name, if there is one.
     pub(crate) fn get(&self, name: &str) -> Option<&Bytes>
         ensures { option_copied result ≡ map.get self.now name.now }
     {
         self.by_name.get(name)
     }
 
-    /// Makes the bytes the file with this name.
+    // Makes the bytes the file with this name.
     pub(crate) fn set(&mut self, alloc: Global, name: &str, bytes: &[u8]) -> Result<(), NoMemory>
         ensures ok { OnOk result (self.new ≡ map.insert self.old name.now bytes.now) }
         ensures err { OnErr result (self.new ≡ self.old) }

@@ -1,5 +1,5 @@
 ghost use Rattle.std.specs.Prelude.{◌≡◌, Err, None, ⊤};
-ghost use Rattle.spm_outside.specs.Desk.{DeskFaultsAfter};
+ghost use Rattle.spm_outside.specs.Faults.{FaultsAfter};
 
 use crate::desk::{Desk, DeskFault};
 use spm_version::Bytes;
@@ -23,7 +23,7 @@ pub struct FolderDesk<R> {
 impl<R: Files> FolderDesk<R> {
     /// The desk of the files that the runtime reaches.
     pub fn new(alloc: Global, runtime: R) -> FolderDesk<R>
-        ensures { ⟦<FolderDesk<R> as Desk>⟧.faults result ≡ 0 }
+        ensures { (⟦<FolderDesk<R> as Desk>⟧.state result).faults ≡ 0 }
     {
         FolderDesk {
             runtime,
@@ -60,7 +60,7 @@ impl<R: Files> FolderDesk<R> {
 
     // What the system's error is here. It counts a fault unless memory is wanting.
     fn fault_of(&mut self, e: io::Error) -> DeskFault
-        ensures { DeskFaultsAfter {T = ⊤} (Err result) self.old.faults self.new.faults }
+        ensures { FaultsAfter {T = ⊤} (Err result) self.old.faults self.new.faults }
     {
         match e.kind() {
             ErrorKind::OutOfMemory => DeskFault::Memory,
@@ -73,11 +73,7 @@ impl<R: Files> FolderDesk<R> {
 }
 
 impl<R: Files> Desk for FolderDesk<R> {
-    ghost files = { λ _. None };
-
-    ghost failed = { λ _. None };
-
-    ghost faults = { λ desk. desk.faults };
+    ghost state = { λ desk. record { files = None; failed = None; faults = desk.faults } };
 
     fn get(&mut self, name: &str) -> Result<Option<Bytes>, DeskFault> {
         match self.read(name) {

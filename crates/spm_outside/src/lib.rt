@@ -2,11 +2,12 @@
 //! connections (`Door`, `Peer`).
 //! A program is written over these, so that it runs over the system and, in a test, over objects in memory.
 //!
-//! - Each trait has meanings that an object tells or not: the files by their names, the bytes written, the book of
+//! - Each trait has a *state*: what an object tells of the files by their names, the bytes written, the book of
 //!   replies, the calls made and the bytes that are left to read. `None` is a meaning that isn't told. A clause
-//!   says what a call leaves of each meaning, by its answer (`specs/Desk.antt`, `Sink.antt` and `Link.antt`).
-//! - Each counts its faults. The count rises where a call answers `Failed`, and nowhere else, so a program whose
-//!   count is as it was had no fault.
+//!   says what a call leaves of each, by its answer (`specs/Desk.antt`, `Sink.antt`, `Link.antt` and so on).
+//! - Each counts its faults in its state. The count rises where a call answers `Failed`, and nowhere else
+//!   (`specs/Faults.antt`), so a program whose count is as it was had no fault. The fault of a call is a
+//!   [`CallFault`], under the name of its trait.
 //! - `MemoryDesk`, `MemorySink` and `BookLink` tell all, and fail at the calls that their maker lists
 //!   (`specs/Schedule.antt`, and `specs/Memory.antt` for what they hold). `FolderDesk` and `StdSink` are the
 //!   system's, and tell nothing.
@@ -24,6 +25,7 @@ mod book_index;
 mod book_link;
 mod desk;
 mod door;
+mod fault;
 mod files;
 mod folder_desk;
 mod gate;
@@ -34,6 +36,7 @@ mod memory_peer;
 mod memory_sink;
 mod peer;
 mod schedule;
+mod shared;
 mod sink;
 mod std_sink;
 
@@ -41,6 +44,7 @@ pub use crate::book::{Authority, Book, Entry};
 pub use crate::book_link::BookLink;
 pub use crate::desk::{Desk, DeskFault};
 pub use crate::door::{Door, DoorFault};
+pub use crate::fault::CallFault;
 pub use crate::folder_desk::FolderDesk;
 pub use crate::gate::{Gate, OpenGate};
 pub use crate::link::{Call, Link, LinkFault, exchange};

@@ -1,9 +1,10 @@
-ghost use Rattle.std.specs.Prelude.{◌≡◌, [], ◌∷◌, ◌++◌, IfOk, IfSome, IsErr, IsErrOf, IsTrue, OnErr, OnOk, Some, option_copied};
+ghost use Rattle.std.specs.Prelude.{◌≡◌, ℕ, [], Err, IfOk, IfSome, IsErr, IsErrOf, IsTrue, OnErr, OnOk, Some, option_copied};
 ghost use Rattle.std.specs.FinMap as map;
-ghost use Rattle.spm_outside.specs.Desk.{DeskFaultsAfter, FilesAfterPut, failed_after};
-ghost use Rattle.spm_outside.specs.Faults.{Rises};
-ghost use Rattle.spm_outside.specs.Memory.{failed_of_desk, faults_of_desk, files_of_desk, plan_of_desk};
+ghost use Rattle.spm_outside.specs.Desk.{FilesAfterPut, failed_after};
+ghost use Rattle.spm_outside.specs.Faults.{FaultsAfter, Rises};
+ghost use Rattle.spm_outside.specs.Memory.{files_of_desk, plan_of_desk, state_of_desk};
 ghost use Rattle.spm_outside.specs.Schedule.{after_call, fails_next};
+ghost use Rattle.spm_outside.specs.declared.fault.CallFault.TheVariants.{Failed};
 
 use crate::desk::{Desk, DeskFault};
 use crate::files::Files;
@@ -24,10 +25,13 @@ pub struct MemoryDesk {
 
 impl MemoryDesk {
     /// A desk with no files, whose calls with these numbers fail.
+    ///
+    /// # Errors
+    ///
+    /// `NoMemory` alone.
     pub fn new(alloc: Global, failing: &[u64]) -> Result<MemoryDesk, NoMemory>
-        ensures files { IfOk result (λ desk. ⟦<MemoryDesk as Desk>⟧.files desk ≡ Some map.empty) }
-        ensures failed { IfOk result (λ desk. ⟦<MemoryDesk as Desk>⟧.failed desk ≡ Some []) }
-        ensures faults { IfOk result (λ desk. ⟦<MemoryDesk as Desk>⟧.faults desk ≡ 0) }
+        ensures state { IfOk result
+            (λ desk. state_of_desk desk ≡ record { files = Some map.empty; failed = Some []; faults = 0 }) }
         ensures plan { IfOk result (λ desk. plan_of_desk desk ≡ record { failing = failing.now; calls = 0 }) }
     {
         let schedule = Schedule::new(alloc, failing)?;
@@ -41,12 +45,16 @@ impl MemoryDesk {
     }
 
     /// Makes the bytes the file with this name. It is no call of the desk, so it has no number.
+    ///
+    /// # Errors
+    ///
+    /// `NoMemory` alone.
     pub fn set(&mut self, name: &str, bytes: &[u8]) -> Result<(), NoMemory>
         ensures ok { OnOk result
             (files_of_desk self.new ≡ map.insert (files_of_desk self.old) name.now bytes.now) }
         ensures err { OnErr result (files_of_desk self.new ≡ files_of_desk self.old) }
-        ensures failed { failed_of_desk self.new ≡ failed_of_desk self.old }
-        ensures faults { faults_of_desk self.new ≡ faults_of_desk self.old }
+        ensures failed { (state_of_desk self.new).failed ≡ (state_of_desk self.old).failed }
+        ensures faults { (state_of_desk self.new).faults ≡ (state_of_desk self.old).faults }
         ensures plan { plan_of_desk self.new ≡ plan_of_desk self.old }
     {
         self.files.set(self.alloc, name, bytes)
@@ -61,25 +69,24 @@ impl MemoryDesk {
 
     /// The names of the calls that failed, in their order.
     pub fn failed(&self) -> &[Text]
-        ensures { result.now ≡ failed_of_desk self.now }
+        ensures { Some result.now ≡ (state_of_desk self.now).failed }
     {
         self.failed.as_slice()
     }
 
     /// How many calls failed, up to the greatest u64.
     pub fn faults(&self) -> u64
-        ensures { result ≡ faults_of_desk self.now }
+        ensures { result ≡ (state_of_desk self.now).faults }
     {
         self.faults
     }
 
     // Records that a call on this name fails.
     fn note_failure(&mut self, name: &str) -> Result<(), NoMemory>
-        ensures names { OnOk result
-            (failed_of_desk self.new ≡ failed_of_desk self.old ++ name.now ∷ []) }
-        ensures rises { OnOk result (Rises (faults_of_desk self.old) (faults_of_desk self.new)) }
-        ensures err_names { OnErr result (failed_of_desk self.new ≡ failed_of_desk self.old) }
-        ensures err_faults { OnErr result (faults_of_desk self.new ≡ faults_of_desk self.old) }
+        ensures names { OnOk result ((state_of_desk self.new).failed
+            ≡ failed_after {T = ℕ} (Err Failed) name.now (state_of_desk self.old).failed) }
+        ensures rises { OnOk result (Rises (state_of_desk self.old).faults (state_of_desk self.new).faults) }
+        ensures err { OnErr result (state_of_desk self.new ≡ state_of_desk self.old) }
         ensures files { files_of_desk self.new ≡ files_of_desk self.old }
         ensures plan { plan_of_desk self.new ≡ plan_of_desk self.old }
     {
@@ -91,18 +98,13 @@ impl MemoryDesk {
 }
 
 impl Desk for MemoryDesk {
-    ghost files = { λ desk. Some (files_of_desk desk) };
-
-    ghost failed = { λ desk. Some (failed_of_desk desk) };
-
-    ghost faults = { faults_of_desk };
+    ghost state = { state_of_desk };
 
     fn get(&mut self, name: &str) -> Result<Option<Bytes>, DeskFault>
         ensures found { IfOk result (λ found. found ≡ map.get (files_of_desk self.old) name.now) }
-        ensures files { files_of_desk self.new ≡ files_of_desk self.old }
-        ensures failed { Some (failed_of_desk self.new)
-            ≡ failed_after result name.now (Some (failed_of_desk self.old)) }
-        ensures faults { DeskFaultsAfter result (faults_of_desk self.old) (faults_of_desk self.new) }
+        ensures files { (state_of_desk self.new).files ≡ (state_of_desk self.old).files }
+        ensures failed { (state_of_desk self.new).failed ≡ failed_after result name.now (state_of_desk self.old).failed }
+        ensures faults { FaultsAfter result (state_of_desk self.old).faults (state_of_desk self.new).faults }
 
         // A listed call fails, or has no memory to record it, and no other call fails.
         ensures fails { IsErrOf result DeskFault.Failed → IsTrue (fails_next (plan_of_desk self.old)) }
@@ -121,10 +123,9 @@ impl Desk for MemoryDesk {
 
     fn put(&mut self, name: &str, bytes: &[u8]) -> Result<(), DeskFault>
         ensures files { FilesAfterPut result name.now bytes.now
-            (Some (files_of_desk self.old)) (Some (files_of_desk self.new)) }
-        ensures failed { Some (failed_of_desk self.new)
-            ≡ failed_after result name.now (Some (failed_of_desk self.old)) }
-        ensures faults { DeskFaultsAfter result (faults_of_desk self.old) (faults_of_desk self.new) }
+            (state_of_desk self.old).files (state_of_desk self.new).files }
+        ensures failed { (state_of_desk self.new).failed ≡ failed_after result name.now (state_of_desk self.old).failed }
+        ensures faults { FaultsAfter result (state_of_desk self.old).faults (state_of_desk self.new).faults }
 
         // A listed call fails, or has no memory to record it, and no other call fails.
         ensures fails { IsErrOf result DeskFault.Failed → IsTrue (fails_next (plan_of_desk self.old)) }

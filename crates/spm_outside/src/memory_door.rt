@@ -1,8 +1,9 @@
 ghost use Rattle.std.specs.Prelude.{◌≡◌, ◌≢◌, ◌⊎◌, ◌↔◌, [], ◌∷◌, ◌++◌, Err, IfOk, IsErr, IsErrOf, IsTrue, OnOk, OnErr, Some, map};
-ghost use Rattle.spm_outside.specs.Door.{DoorFaultsAfter, IsFresh, served_after};
-ghost use Rattle.spm_outside.specs.Doorway.{faults_of_door, plan_of_door, visit_of, visits_of_door, waiting_at_door};
+ghost use Rattle.spm_outside.specs.Door.{IsFresh, served_after};
+ghost use Rattle.spm_outside.specs.Doorway.{plan_of_door, state_of_door, waiting_at_door};
+ghost use Rattle.spm_outside.specs.Faults.{FaultsAfter};
+ghost use Rattle.spm_outside.specs.Memory.{state_of_peer};
 ghost use Rattle.spm_outside.specs.Schedule.{after_call, fails_next};
-ghost use Rattle.spm_outside.specs.declared.door.DoorFault.TheVariants.{Failed};
 
 use crate::door::{Door, DoorFault};
 use crate::memory_peer::MemoryPeer;
@@ -35,10 +36,13 @@ impl Model for MemoryDoor {
 
 impl MemoryDoor {
     /// A door without peers, whose calls with these numbers fail.
+    ///
+    /// # Errors
+    ///
+    /// `NoMemory` alone.
     pub fn new(alloc: Global, failing: &[u64]) -> Result<MemoryDoor, NoMemory>
         ensures waiting { IfOk result (λ door. waiting_at_door door ≡ []) }
-        ensures served { IfOk result (λ door. ⟦<MemoryDoor as Door>⟧.served door ≡ Some []) }
-        ensures faults { IfOk result (λ door. ⟦<MemoryDoor as Door>⟧.faults door ≡ 0) }
+        ensures state { IfOk result (λ door. state_of_door door ≡ record { served = Some []; faults = 0 }) }
         ensures plan { IfOk result (λ door. plan_of_door door ≡ record { failing = failing.now; calls = 0 }) }
     {
         let schedule = Schedule::new(alloc, failing)?;
@@ -51,12 +55,15 @@ impl MemoryDoor {
     }
 
     /// Adds a peer behind the others. It has taken and written nothing and counted no fault. This is no call of the door.
+    ///
+    /// # Errors
+    ///
+    /// `NoMemory` alone.
     pub fn add(&mut self, peer: MemoryPeer) -> Result<(), NoMemory>
-        requires { IsFresh (visit_of peer) }
+        requires { IsFresh (state_of_peer peer) }
         ensures waiting { OnOk result (waiting_at_door self.new ≡ waiting_at_door self.old ++ peer ∷ []) }
         ensures refused { OnErr result (self.new ≡ self.old) }
-        ensures served { visits_of_door self.new ≡ visits_of_door self.old }
-        ensures faults { faults_of_door self.new ≡ faults_of_door self.old }
+        ensures state { state_of_door self.new ≡ state_of_door self.old }
         ensures plan { plan_of_door self.new ≡ plan_of_door self.old }
     {
         self.waiting.push_back(peer)?;
@@ -65,7 +72,7 @@ impl MemoryDoor {
 
     /// The peers that came back, in their order.
     pub fn served(&self) -> &[MemoryPeer]
-        ensures { map visit_of result.now ≡ visits_of_door self.now }
+        ensures { Some (map state_of_peer result.now) ≡ (state_of_door self.now).served }
     {
         self.served.as_slice()
     }
@@ -74,13 +81,11 @@ impl MemoryDoor {
 impl Door for MemoryDoor {
     type Peer = MemoryPeer;
 
-    ghost served = { λ door. Some (visits_of_door door) };
-
-    ghost faults = { faults_of_door };
+    ghost state = { state_of_door };
 
     fn bind(&mut self, _port: u16) -> Result<(), DoorFault>
-        ensures served { Some (visits_of_door self.new) ≡ Some (visits_of_door self.old) }
-        ensures faults { DoorFaultsAfter result (faults_of_door self.old) (faults_of_door self.new) }
+        ensures served { (state_of_door self.new).served ≡ (state_of_door self.old).served }
+        ensures faults { FaultsAfter result (state_of_door self.old).faults (state_of_door self.new).faults }
         ensures waiting { waiting_at_door self.new ≡ waiting_at_door self.old }
 
         // Exactly the listed calls fail.
@@ -96,9 +101,9 @@ impl Door for MemoryDoor {
     }
 
     fn next(&mut self) -> Result<MemoryPeer, DoorFault>
-        ensures fresh { IfOk result (λ peer. IsFresh (visit_of peer)) }
-        ensures served { Some (visits_of_door self.new) ≡ Some (visits_of_door self.old) }
-        ensures faults { DoorFaultsAfter result (faults_of_door self.old) (faults_of_door self.new) }
+        ensures fresh { IfOk result (λ peer. IsFresh (state_of_peer peer)) }
+        ensures served { (state_of_door self.new).served ≡ (state_of_door self.old).served }
+        ensures faults { FaultsAfter result (state_of_door self.old).faults (state_of_door self.new).faults }
         ensures waiting { IfOk result (λ peer. waiting_at_door self.old ≡ peer ∷ waiting_at_door self.new) }
         ensures stay { IsErr result → waiting_at_door self.new ≡ waiting_at_door self.old }
 
@@ -118,8 +123,8 @@ impl Door for MemoryDoor {
 
     fn done(&mut self, peer: MemoryPeer) -> Result<(), DoorFault>
         ensures answer { result ≢ Err DoorFault.Failed }
-        ensures served { Some (visits_of_door self.new) ≡ served_after result (visit_of peer) (Some (visits_of_door self.old)) }
-        ensures faults { faults_of_door self.new ≡ faults_of_door self.old }
+        ensures served { (state_of_door self.new).served ≡ served_after result (state_of_peer peer) (state_of_door self.old).served }
+        ensures faults { (state_of_door self.new).faults ≡ (state_of_door self.old).faults }
         ensures waiting { waiting_at_door self.new ≡ waiting_at_door self.old }
         ensures plan { plan_of_door self.new ≡ plan_of_door self.old }
     {

@@ -1,8 +1,9 @@
-ghost use Rattle.std.specs.Prelude.{◌≡◌, ◌≢◌, ◌<◌, ◌↔◌, [], Err, IfOk, IsErrOf, IsTrue, Some, length};
-ghost use Rattle.spm_outside.specs.Memory.{faults_of_peer, plan_of_peer, rest_of_peer, taken_of_peer, written_of_peer};
-ghost use Rattle.spm_outside.specs.Peer.{LeftAfter, PeerFaultsAfter, sent_after, taken_after};
+ghost use Rattle.std.specs.Prelude.{◌≡◌, ◌≢◌, ◌<◌, ◌↔◌, [], Err, IfOk, IsErrOf, IsTrue, Some, drop, length};
+ghost use Rattle.spm_outside.specs.Faults.{FaultsAfter};
+ghost use Rattle.spm_outside.specs.Memory.{plan_of_peer, state_of_peer};
+ghost use Rattle.spm_outside.specs.Peer.{LeftAfter, taken_after};
 ghost use Rattle.spm_outside.specs.Schedule.{after_call, fails_next};
-ghost use Rattle.spm_outside.specs.Sink.{TakesOf};
+ghost use Rattle.spm_outside.specs.Sink.{TakesOf, written_after};
 
 use crate::peer::{Peer, PeerFault};
 use crate::schedule::Schedule;
@@ -22,11 +23,13 @@ pub struct MemoryPeer {
 
 impl MemoryPeer {
     /// A peer from which these bytes come, whose calls with these numbers fail. Nothing is taken or written yet.
+    ///
+    /// # Errors
+    ///
+    /// `NoMemory` alone.
     pub fn new(alloc: Global, bytes: &[u8], failing: &[u64]) -> Result<MemoryPeer, NoMemory>
-        ensures taken { IfOk result (λ peer. ⟦<MemoryPeer as Peer>⟧.taken peer ≡ Some []) }
-        ensures rest { IfOk result (λ peer. ⟦<MemoryPeer as Peer>⟧.rest peer ≡ Some bytes.now) }
-        ensures written { IfOk result (λ peer. ⟦<MemoryPeer as Peer>⟧.written peer ≡ Some []) }
-        ensures faults { IfOk result (λ peer. ⟦<MemoryPeer as Peer>⟧.faults peer ≡ 0) }
+        ensures state { IfOk result (λ peer. state_of_peer peer
+            ≡ record { taken = Some []; rest = Some bytes.now; written = Some []; faults = 0 }) }
         ensures plan { IfOk result (λ peer. plan_of_peer peer ≡ record { failing = failing.now; calls = 0 }) }
     {
         let schedule = Schedule::new(alloc, failing)?;
@@ -41,41 +44,35 @@ impl MemoryPeer {
 
     // The bytes that are left.
     fn rest(&self) -> &[u8]
-        ensures { result.now ≡ rest_of_peer self.now }
+        ensures { result.now ≡ drop self.now.taken self.now.bytes.items }
     {
         self.bytes.get(self.taken..).unwrap_or(&[])
     }
 
     /// The bytes written to it, in their order.
     pub fn written(&self) -> &[u8]
-        ensures { result.now ≡ written_of_peer self.now }
+        ensures { Some result.now ≡ (state_of_peer self.now).written }
     {
         self.written.as_slice()
     }
 
     /// How many calls failed, up to the greatest u64.
     pub fn faults(&self) -> u64
-        ensures { result ≡ faults_of_peer self.now }
+        ensures { result ≡ (state_of_peer self.now).faults }
     {
         self.faults
     }
 }
 
 impl Peer for MemoryPeer {
-    ghost taken = { λ peer. Some (taken_of_peer peer) };
-
-    ghost rest = { λ peer. Some (rest_of_peer peer) };
-
-    ghost written = { λ peer. Some (written_of_peer peer) };
-
-    ghost faults = { faults_of_peer };
+    ghost state = { state_of_peer };
 
     fn read(&mut self, piece: &mut [u8]) -> Result<usize, PeerFault>
         requires { 0 < length piece.old }
-        ensures taken { Some (taken_of_peer self.new) ≡ taken_after result piece.new (Some (taken_of_peer self.old)) }
-        ensures rest { LeftAfter result piece.new (Some (rest_of_peer self.old)) (Some (rest_of_peer self.new)) }
-        ensures written { Some (written_of_peer self.new) ≡ Some (written_of_peer self.old) }
-        ensures faults { PeerFaultsAfter result (faults_of_peer self.old) (faults_of_peer self.new) }
+        ensures taken { (state_of_peer self.new).taken ≡ taken_after result piece.new (state_of_peer self.old).taken }
+        ensures rest { LeftAfter result piece.new (state_of_peer self.old).rest (state_of_peer self.new).rest }
+        ensures written { (state_of_peer self.new).written ≡ (state_of_peer self.old).written }
+        ensures faults { FaultsAfter result (state_of_peer self.old).faults (state_of_peer self.new).faults }
 
         // Exactly the listed calls fail.
         ensures fails { IsErrOf result PeerFault.Failed ↔ IsTrue (fails_next (plan_of_peer self.old)) }
@@ -95,10 +92,10 @@ impl Peer for MemoryPeer {
 
     fn put(&mut self, piece: &[u8]) -> Result<usize, PeerFault>
         ensures takes { IfOk result (λ count. TakesOf piece.now count) }
-        ensures taken { Some (taken_of_peer self.new) ≡ Some (taken_of_peer self.old) }
-        ensures rest { Some (rest_of_peer self.new) ≡ Some (rest_of_peer self.old) }
-        ensures written { Some (written_of_peer self.new) ≡ sent_after result piece.now (Some (written_of_peer self.old)) }
-        ensures faults { PeerFaultsAfter result (faults_of_peer self.old) (faults_of_peer self.new) }
+        ensures taken { (state_of_peer self.new).taken ≡ (state_of_peer self.old).taken }
+        ensures rest { (state_of_peer self.new).rest ≡ (state_of_peer self.old).rest }
+        ensures written { (state_of_peer self.new).written ≡ written_after result piece.now (state_of_peer self.old).written }
+        ensures faults { FaultsAfter result (state_of_peer self.old).faults (state_of_peer self.new).faults }
         ensures whole { IfOk result (λ count. count ≡ length piece.now) }
 
         // Exactly the listed calls fail.

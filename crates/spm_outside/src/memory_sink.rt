@@ -1,7 +1,8 @@
 ghost use Rattle.std.specs.Prelude.{◌≡◌, ◌↔◌, [], IfOk, IsErrOf, IsTrue, Some, length};
-ghost use Rattle.spm_outside.specs.Memory.{faults_of_sink, plan_of_sink, written_of_sink};
+ghost use Rattle.spm_outside.specs.Faults.{FaultsAfter};
+ghost use Rattle.spm_outside.specs.Memory.{plan_of_sink, state_of_sink};
 ghost use Rattle.spm_outside.specs.Schedule.{after_call, fails_next};
-ghost use Rattle.spm_outside.specs.Sink.{SinkFaultsAfter, TakesOf, written_after};
+ghost use Rattle.spm_outside.specs.Sink.{TakesOf, written_after};
 
 use crate::schedule::Schedule;
 use crate::sink::{Sink, SinkFault};
@@ -19,9 +20,12 @@ pub struct MemorySink {
 
 impl MemorySink {
     /// A sink with nothing written, whose calls with these numbers fail.
+    ///
+    /// # Errors
+    ///
+    /// `NoMemory` alone.
     pub fn new(alloc: Global, failing: &[u64]) -> Result<MemorySink, NoMemory>
-        ensures written { IfOk result (λ sink. ⟦<MemorySink as Sink>⟧.written sink ≡ Some []) }
-        ensures faults { IfOk result (λ sink. ⟦<MemorySink as Sink>⟧.faults sink ≡ 0) }
+        ensures state { IfOk result (λ sink. state_of_sink sink ≡ record { written = Some []; faults = 0 }) }
         ensures plan { IfOk result (λ sink. plan_of_sink sink ≡ record { failing = failing.now; calls = 0 }) }
     {
         let schedule = Schedule::new(alloc, failing)?;
@@ -34,29 +38,26 @@ impl MemorySink {
 
     /// The bytes written, in their order.
     pub fn written(&self) -> &[u8]
-        ensures { result.now ≡ written_of_sink self.now }
+        ensures { Some result.now ≡ (state_of_sink self.now).written }
     {
         self.written.as_slice()
     }
 
     /// How many puts failed, up to the greatest u64.
     pub fn faults(&self) -> u64
-        ensures { result ≡ faults_of_sink self.now }
+        ensures { result ≡ (state_of_sink self.now).faults }
     {
         self.faults
     }
 }
 
 impl Sink for MemorySink {
-    ghost written = { λ sink. Some (written_of_sink sink) };
-
-    ghost faults = { faults_of_sink };
+    ghost state = { state_of_sink };
 
     fn put(&mut self, piece: &[u8]) -> Result<usize, SinkFault>
         ensures takes { IfOk result (λ count. TakesOf piece.now count) }
-        ensures written { Some (written_of_sink self.new)
-            ≡ written_after result piece.now (Some (written_of_sink self.old)) }
-        ensures faults { SinkFaultsAfter result (faults_of_sink self.old) (faults_of_sink self.new) }
+        ensures written { (state_of_sink self.new).written ≡ written_after result piece.now (state_of_sink self.old).written }
+        ensures faults { FaultsAfter result (state_of_sink self.old).faults (state_of_sink self.new).faults }
         ensures whole { IfOk result (λ count. count ≡ length piece.now) }
 
         // Exactly the listed calls fail.

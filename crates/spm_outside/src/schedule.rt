@@ -22,7 +22,7 @@ impl Model for Schedule {
 impl Schedule {
     ghost use Rattle.spm_outside.specs.Schedule.{after_call, fails_next};
 
-    /// The calls with these numbers fail. No call is made yet.
+    // The calls with these numbers fail. No call is made yet.
     pub(crate) fn new(alloc: Global, failing: &[u64]) -> Result<Schedule, NoMemory>
         ensures { IfOk result (λ schedule. schedule ≡ record { failing = failing.now; calls = 0 }) }
     {
@@ -30,7 +30,7 @@ impl Schedule {
         Ok(Schedule { failing, calls: 0 })
     }
 
-    /// Counts a call, and says whether it fails.
+    // Counts a call, and says whether it fails.
     pub(crate) fn next_fails(&mut self) -> bool
         ensures answer { result ≡ fails_next self.old }
         ensures counted { self.new ≡ after_call self.old }

@@ -15,7 +15,7 @@ pub struct StdSink<R> {
 impl<R: Print> StdSink<R> {
     /// The standard output of the runtime.
     pub fn new(runtime: R) -> StdSink<R>
-        ensures { ⟦<StdSink<R> as Sink>⟧.faults result ≡ 0 }
+        ensures { (⟦<StdSink<R> as Sink>⟧.state result).faults ≡ 0 }
     {
         StdSink { runtime, faults: 0 }
     }
@@ -31,9 +31,7 @@ impl<R: Print> StdSink<R> {
 }
 
 impl<R: Print> Sink for StdSink<R> {
-    ghost written = { λ _. None };
-
-    ghost faults = { λ sink. sink.faults };
+    ghost state = { λ sink. record { written = None; faults = sink.faults } };
 
     fn put(&mut self, piece: &[u8]) -> Result<usize, SinkFault> {
         match io::writer(&self.runtime).write(piece) {

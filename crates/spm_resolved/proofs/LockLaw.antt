@@ -19,6 +19,7 @@ use Rattle.spm_resolved.proofs.LockTokens.{AreTame}
 use Rattle.spm_resolved.proofs.LockData.{read-resolved_text}
 use Rattle.spm_resolved.proofs.LockReading.{resolved_reading-lock_data}
 
+-- pins of the grammar are tame
 AreTame-from_pins : (pins : List Pin) → ArePins pins → AreTame pins
 AreTame-from_pins [] are = tt
 AreTame-from_pins (pin ∷ []) are = (IsTame-identity pin.0 are.0, IsTame-version pin.1 are.1, tt)
@@ -27,12 +28,14 @@ AreTame-from_pins (pin ∷ next ∷ pins) are =
 
 -- ---- the text is ASCII
 
+-- bytes below 128 are ASCII
 IsAscii-from_test : (text : List ℕ) → list_all (λ byte. nat_lt byte 128) text ≡ true → IsAscii text
 IsAscii-from_test [] h = IsAscii-nil
 IsAscii-from_test (byte ∷ text) h =
     let both = and_parts (nat_lt byte 128) (list_all (λ b. nat_lt b 128) text) h in
     IsAscii-cons byte text (ltb-true byte 128 both.0) (IsAscii-from_test text both.1)
 
+-- a pin's lines are ASCII
 IsAscii-pin_text : (pin : Pin) → IsTame pin.0 → IsTame (parts_text pin.1) → IsAscii (pin_text pin)
 IsAscii-pin_text pin identity version =
     IsAscii-append (codes "    {\n      \"identity\" : \"") _ (IsAscii-from_test (codes "    {\n      \"identity\" : \"") refl)
@@ -42,17 +45,20 @@ IsAscii-pin_text pin identity version =
     (IsAscii-append (parts_text pin.1) _ (IsAscii-from_tame (parts_text pin.1) version)
     (IsAscii-from_test (codes "\"\n      }\n    }") refl))))
 
+-- so are those of the pins behind the first
 IsAscii-more_pins_text : (pins : List Pin) → AreTame pins → IsAscii (more_pins_text pins)
 IsAscii-more_pins_text [] tame = IsAscii-nil
 IsAscii-more_pins_text (pin ∷ pins) tame =
     IsAscii-append (codes ",\n") (pin_text pin ++ more_pins_text pins) (IsAscii-from_test (codes ",\n") refl)
     (IsAscii-append (pin_text pin) (more_pins_text pins) (IsAscii-pin_text pin tame.0 tame.1) (IsAscii-more_pins_text pins tame.2))
 
+-- so are those of all pins
 IsAscii-pins_text : (pins : List Pin) → AreTame pins → IsAscii (pins_text pins)
 IsAscii-pins_text [] tame = IsAscii-nil
 IsAscii-pins_text (pin ∷ pins) tame =
     IsAscii-append (pin_text pin) _ (IsAscii-pin_text pin tame.0 tame.1) (IsAscii-more_pins_text pins tame.2)
 
+-- so is a file
 IsAscii-resolved_text : (origin : List ℕ) (pins : List Pin) → IsTame (encode_lower origin) → AreTame pins
     → IsAscii (resolved_text origin pins)
 IsAscii-resolved_text origin pins sum tame =
@@ -64,6 +70,7 @@ IsAscii-resolved_text origin pins sum tame =
 
 -- ---- the law
 
+-- what is written is read back
 pub resolved_of-resolved_text : (origin : List ℕ) (pins : List Pin) → IsBytes origin → ArePins pins
     → resolved_of (resolved_text origin pins) ≡ Ok (record { origin = Some (encode_lower origin); pins = pins })
 resolved_of-resolved_text origin pins bytes are =

@@ -15,15 +15,18 @@ use Rattle.spm_resolved.proofs.Tame.{IsTame, content-tame, lex-tame}
 
 -- ---- the value of a lock file
 
+-- the JSON of a pin
 abbrev pub pin_json : Pin → Json
 pin_json pin = object (member (codes "identity") (string pin.0) (member (codes "kind") (string (codes "registry"))
     (member (codes "location") (string []) (member (codes "state")
     (object (member (codes "version") (string (parts_text pin.1)) no_members)) no_members))))
 
+-- that of pins
 abbrev pub pins_json : List Pin → Items
 pins_json [] = no_items
 pins_json (pin ∷ pins) = item (pin_json pin) (pins_json pins)
 
+-- that of a file
 abbrev pub lock_json : List ℕ → List Pin → Json
 lock_json origin pins = object (member (codes "originHash") (string (encode_lower origin)) (member (codes "pins") (array (pins_json pins))
     (member (codes "version") (number (codes "3")) no_members)))
@@ -35,6 +38,7 @@ AreTame (pin ∷ pins) = IsTame pin.0 × IsTame (parts_text pin.1) × AreTame pi
 
 -- ---- the pieces of a pin, each up to the quote behind a text
 
+-- the lexemes of an identity
 lex-identity : (text rest : List ℕ) → IsTame text
     → lex between (codes "    {\n      \"identity\" : \"" ++ (text ++ 34 ∷ rest))
     ≡ token Token.begin_object ∷ token (Token.string (codes "identity")) ∷ colon ∷ token (Token.string text) ∷ lex between rest
@@ -43,6 +47,7 @@ lex-identity text rest tame =
     ap₂ (λ found more. token Token.begin_object ∷ token (Token.string (codes "identity")) ∷ colon ∷ token (string_token found) ∷ more)
     (content-tame text rest tame) (lex-tame text rest tame)
 
+-- those of a version
 lex-version : (text rest : List ℕ) → IsTame text
     → lex between (codes ",\n      \"kind\" : \"registry\",\n      \"location\" : \"\",\n      \"state\" : {\n        \"version\" : \"" ++ (text ++ 34 ∷ rest))
     ≡ comma ∷ token (Token.string (codes "kind")) ∷ colon ∷ token (Token.string (codes "registry")) ∷ comma
@@ -55,6 +60,7 @@ lex-version text rest tame =
     ∷ token Token.begin_object ∷ token (Token.string (codes "version")) ∷ colon ∷ token (string_token found) ∷ more)
     (content-tame text rest tame) (lex-tame text rest tame)
 
+-- those at the end of a pin
 lex-pin_end : (rest : List ℕ)
     → lex between (codes "\n      }\n    }" ++ rest) ≡ token Token.end_object ∷ token Token.end_object ∷ lex between rest
 unfolding lex
@@ -62,6 +68,7 @@ lex-pin_end rest = refl
 
 -- ---- one pin
 
+-- the lexemes of a pin
 abbrev pin_lexemes : Pin → List Lexeme → List Lexeme
 pin_lexemes pin rest =
     token Token.begin_object ∷ token (Token.string (codes "identity")) ∷ colon ∷ token (Token.string pin.0)
@@ -70,9 +77,11 @@ pin_lexemes pin rest =
     ∷ token Token.begin_object ∷ token (Token.string (codes "version")) ∷ colon ∷ token (Token.string (parts_text pin.1))
     ∷ token Token.end_object ∷ token Token.end_object ∷ rest
 
+-- five pieces before the rest
 regroup : (a b c d e rest : List ℕ) → (a ++ (b ++ (c ++ (d ++ e)))) ++ rest ≡ a ++ (b ++ (c ++ (d ++ (e ++ rest))))
 regroup a b c d e rest = simp append_assoc
 
+-- the lexemes of a pin
 lex-pin : (pin : Pin) (rest : List ℕ) → IsTame pin.0 → IsTame (parts_text pin.1)
     → lex between (pin_text pin ++ rest) ≡ pin_lexemes pin (lex between rest)
 lex-pin pin rest identity version =
@@ -97,11 +106,13 @@ punctuate-pin_lexemes pin rest = (refl, refl)
 
 -- ---- the list of pins, in front of what closes it
 
+-- those of a comma
 comma-lexed : (text rest : List ℕ)
     → punctuate after_value (lex between ((codes ",\n" ++ text) ++ rest)) ≡ punctuate after_comma (lex between (text ++ rest))
 unfolding lex punctuate
 comma-lexed text rest = refl
 
+-- the tokens of the pins behind the first
 tokens-more_pins_text : (pins : List Pin) (rest : List ℕ) (after : List Token) → AreTame pins
     → punctuate after_value (lex between rest) ≡ Token.end_array ∷ after
     → punctuate after_value (lex between (more_pins_text pins ++ rest)) ≡ items_tokens (pins_json pins) ++ after
@@ -113,6 +124,7 @@ tokens-more_pins_text (pin ∷ pins) rest after tame closed =
     ∙ (punctuate-pin_lexemes pin (lex between (more_pins_text pins ++ rest))).1
     ∙ ap (λ more. json_tokens (pin_json pin) ++ more) (tokens-more_pins_text pins rest after tame.2 closed)
 
+-- those of all pins
 tokens-pins_text : (pins : List Pin) (rest : List ℕ) (after : List Token) → AreTame pins
     → punctuate fresh (lex between rest) ≡ Token.end_array ∷ after
     → punctuate after_value (lex between rest) ≡ Token.end_array ∷ after
@@ -126,17 +138,21 @@ tokens-pins_text (pin ∷ pins) rest after tame empty closed =
 
 -- ---- the whole file
 
+-- the end of a lock file
 abbrev closing : List ℕ
 closing = codes "\n  ],\n  \"version\" : 3\n}\n"
 
+-- and its tokens
 abbrev closing_tokens : List Token
 closing_tokens = Token.key (codes "version") ∷ Token.number (codes "3") ∷ Token.end_object ∷ []
 
+-- those at the end of a file
 tokens-closing : (punctuate fresh (lex between closing) ≡ Token.end_array ∷ closing_tokens)
     × (punctuate after_value (lex between closing) ≡ Token.end_array ∷ closing_tokens)
 unfolding lex content word after_number punctuate
 tokens-closing = (refl, refl)
 
+-- the lexemes of an origin
 lex-origin : (text rest : List ℕ) → IsTame text
     → lex between (codes "{\n  \"originHash\" : \"" ++ (text ++ 34 ∷ rest))
     ≡ token Token.begin_object ∷ token (Token.string (codes "originHash")) ∷ colon ∷ token (Token.string text) ∷ lex between rest
@@ -145,6 +161,7 @@ lex-origin text rest tame =
     ap₂ (λ found more. token Token.begin_object ∷ token (Token.string (codes "originHash")) ∷ colon ∷ token (string_token found) ∷ more)
     (content-tame text rest tame) (lex-tame text rest tame)
 
+-- the tokens at the start of a file
 tokens-opening : (text rest : List ℕ)
     → punctuate fresh (token Token.begin_object ∷ token (Token.string (codes "originHash")) ∷ colon ∷ token (Token.string text)
     ∷ lex between (codes ",\n  \"pins\" : [\n" ++ rest))
@@ -153,6 +170,7 @@ tokens-opening : (text rest : List ℕ)
 unfolding lex content punctuate
 tokens-opening text rest = refl
 
+-- those of a file
 pub tokens-resolved_text : (origin : List ℕ) (pins : List Pin) → IsTame (encode_lower origin) → AreTame pins
     → tokens (resolved_text origin pins) ≡ json_tokens (lock_json origin pins)
 tokens-resolved_text origin pins sum tame =

@@ -11,9 +11,11 @@ use Rattle.json.specs.Print.{escape}
 use Rattle.json.specs.Text.{content, plain}
 use Rattle.json.proofs.Printed.Strings.{content-escape, escape_byte_plain, lex-escape}
 
+-- a byte that stands for itself in a string
 abbrev pub is_tame : ℕ → Bool
 is_tame byte = nat_le 32 byte && (nat_lt byte 128 && (not (byte == 34) && not (byte == 92)))
 
+-- a text of such bytes
 abbrev pub IsTame : List ℕ → Type 0
 IsTame text = list_all is_tame text ≡ true
 
@@ -21,9 +23,11 @@ IsTame text = list_all is_tame text ≡ true
 tame_byte : (byte : ℕ) → is_tame byte ≡ true → (byte ≢ 34) × (byte ≢ 92) × (32 ≤ byte) × (byte < 128)
 tame_byte byte h = grind (arith, nat_tests)
 
+-- two such texts joined
 pub IsTame-append : (xs ys : List ℕ) → IsTame xs → IsTame ys → IsTame (xs ++ ys)
 IsTame-append xs ys first second = rw (list_all-append is_tame xs ys, first, second) refl
 
+-- such a text is ASCII
 pub IsAscii-from_tame : (text : List ℕ) → IsTame text → IsAscii text
 IsAscii-from_tame [] h = IsAscii-nil
 IsAscii-from_tame (byte ∷ text) h =
@@ -42,5 +46,6 @@ escape-tame (byte ∷ text) h =
 pub content-tame : (text rest : List ℕ) → IsTame text → content plain (text ++ 34 ∷ rest) ≡ Some text
 content-tame text rest h = ap (λ t. content plain (t ++ 34 ∷ rest)) (sym (escape-tame text h)) ∙ content-escape text rest
 
+-- such a text in a string is one lexeme
 pub lex-tame : (text rest : List ℕ) → IsTame text → lex in_string (text ++ 34 ∷ rest) ≡ lex between rest
 lex-tame text rest h = ap (λ t. lex in_string (t ++ 34 ∷ rest)) (sym (escape-tame text h)) ∙ lex-escape text rest

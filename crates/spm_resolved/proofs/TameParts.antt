@@ -19,12 +19,15 @@ use Rattle.spm_resolved.proofs.Tame.{IsTame, IsTame-append, is_tame}
 
 -- ---- identities
 
+-- letters and digits
 letter_is_tame : (byte : ℕ) → is_ascii_alphanumeric byte ≡ true → is_tame byte ≡ true
 letter_is_tame byte h = grind (arith, nat_tests)
 
+-- hyphens
 hyphen_is_tame : (byte : ℕ) → is_hyphen byte ≡ true → is_tame byte ≡ true
 hyphen_is_tame byte h = grind (arith, nat_tests)
 
+-- hyphens and underscores
 hyphen_or_underscore_is_tame : (byte : ℕ) → is_hyphen_or_underscore byte ≡ true → is_tame byte ≡ true
 hyphen_or_underscore_is_tame byte h = grind (arith, nat_tests)
 
@@ -39,6 +42,7 @@ IsTame-one false in_word letter begun going byte text by_separator by_letter fir
     let both = and_parts letter going h in
     and_from (is_tame byte) (list_all is_tame text) (by_letter both.0) (second both.1)
 
+-- words with tame separators, inside or outside of a word
 IsTame-goes_on : (p : ℕ → Bool) → ((byte : ℕ) → p byte ≡ true → is_tame byte ≡ true) → (in_word : Bool) (text : List ℕ)
     → goes_on p in_word text ≡ true → IsTame text
 IsTame-goes_on p tame in_word [] h = refl
@@ -46,6 +50,7 @@ IsTame-goes_on p tame in_word (byte ∷ text) h =
     IsTame-one (p byte) in_word (is_ascii_alphanumeric byte) (goes_on p false text) (goes_on p true text) byte text
     (tame byte) (letter_is_tame byte) (IsTame-goes_on p tame false text) (IsTame-goes_on p tame true text) h
 
+-- joined words
 IsTame-joined : (p : ℕ → Bool) → ((byte : ℕ) → p byte ≡ true → is_tame byte ≡ true) → (text : List ℕ)
     → is_joined p text ≡ true → IsTame text
 IsTame-joined p tame text h = IsTame-goes_on p tame false text (goes_on_joined p text ∙ h)
@@ -82,6 +87,7 @@ passed true true false lowered text h = cc
 passed true false name lowered text h = cc
 passed false scope name lowered text h = cc
 
+-- identities
 pub IsTame-identity : (text : List ℕ) → IsIdentity text → IsTame text
 IsTame-identity text h =
     let tests = passed (list_any is_dot text) (is_scope (scope_of text)) (is_name (name_of text)) _ text h in
@@ -92,23 +98,29 @@ IsTame-identity text h =
 
 -- ---- versions
 
+-- decimal digits
 digit_is_tame : (n : ℕ) → n < 10 → is_tame (48 + n) ≡ true
 digit_is_tame n h = grind (arith, nat_tests)
 
+-- a digit as a text
 digit-IsTame : (n : ℕ) → n < 10 → IsTame ((48 + n) ∷ [])
 digit-IsTame n h = rw (digit_is_tame n h) refl
 
+-- a last digit is below ten
 last_digit : (n : ℕ) → n % 10 < 10
 last_digit n = omega arith
 
+-- numbers
 IsTame-decimal : (n : ℕ) → n < 2 ^ 64 → IsTame (decimal n)
 IsTame-decimal =
     decimal_by_steps (λ n digits. IsTame digits) digit-IsTame
     (λ n digits large tame. IsTame-append digits ((48 + n % 10) ∷ []) tame (digit-IsTame (n % 10) (last_digit n)))
 
+-- bytes of identifiers
 identifier_byte_is_tame : (byte : ℕ) → is_identifier_byte byte ≡ true → is_tame byte ≡ true
 identifier_byte_is_tame byte h = grind (arith, nat_tests)
 
+-- dots
 dot_is_tame : (byte : ℕ) → (byte == 46) ≡ true → is_tame byte ≡ true
 dot_is_tame byte h = grind (arith, nat_tests)
 
@@ -116,6 +128,7 @@ dot_is_tame byte h = grind (arith, nat_tests)
 abbrev are_identifiers : List (List ℕ) → Bool
 are_identifiers parts = list_all (λ part. list_all is_identifier_byte part) parts
 
+-- a byte before tame parts
 IsTame-front : (byte : ℕ) (text : List ℕ) (parts : List (List ℕ)) → (are_identifiers parts ≡ true → IsTame text)
     → are_identifiers (onto_first byte parts) ≡ true → IsTame (byte ∷ text)
 IsTame-front byte text [] rest h =
@@ -127,12 +140,14 @@ IsTame-front byte text (part ∷ parts) rest h =
     and_from (is_tame byte) (list_all is_tame text) (identifier_byte_is_tame byte first.0)
     (rest (and_from (list_all is_identifier_byte part) (are_identifiers parts) first.1 both.1))
 
+-- a dot or a byte before tame parts
 IsTame-part : (dot : Bool) (byte : ℕ) (text : List ℕ) (parts : List (List ℕ)) → (dot ≡ true → is_tame byte ≡ true)
     → (are_identifiers parts ≡ true → IsTame text)
     → are_identifiers (cond dot ([] ∷ parts) (onto_first byte parts)) ≡ true → IsTame (byte ∷ text)
 IsTame-part true byte text parts tame rest h = and_from (is_tame byte) (list_all is_tame text) (tame refl) (rest h)
 IsTame-part false byte text parts tame rest h = IsTame-front byte text parts rest h
 
+-- identifiers with dots between
 IsTame-identifiers : (text : List ℕ) → are_identifiers (slice_split (λ byte. byte == 46) text) ≡ true → IsTame text
 IsTame-identifiers [] h = refl
 IsTame-identifiers (byte ∷ text) h =
@@ -146,22 +161,27 @@ weaker strong says (part ∷ parts) h =
     let both = and_parts (strong part) (list_all strong parts) h in
     and_from (list_all is_identifier_byte part) (are_identifiers parts) (says part both.0) (weaker strong says parts both.1)
 
+-- identifiers of build metadata
 of_build : (part : List ℕ) → is_build_identifier part ≡ true → list_all is_identifier_byte part ≡ true
 of_build part h = (and_parts _ (list_all is_identifier_byte part) h).1
 
+-- identifiers of a pre-release
 of_pre : (part : List ℕ) → is_pre_identifier part ≡ true → list_all is_identifier_byte part ≡ true
 of_pre part h = of_build part (and_parts (is_build_identifier part) _ h).0
 
+-- pre-releases
 IsTame-pre : (text : List ℕ) → is_pre_release text ≡ true → IsTame (marked 45 text)
 IsTame-pre [] h = refl
 IsTame-pre (byte ∷ text) h =
     IsTame-identifiers (byte ∷ text) (weaker is_pre_identifier of_pre (slice_split (λ b. b == 46) (byte ∷ text)) h)
 
+-- build metadata
 IsTame-build : (text : List ℕ) → is_build text ≡ true → IsTame (marked 43 text)
 IsTame-build [] h = refl
 IsTame-build (byte ∷ text) h =
     IsTame-identifiers (byte ∷ text) (weaker is_build_identifier of_build (slice_split (λ b. b == 46) (byte ∷ text)) h)
 
+-- versions
 pub IsTame-version : (parts : Parts) → IsValid parts → IsTame (parts_text parts)
 IsTame-version parts valid =
     IsTame-append (decimal parts.0) _ (IsTame-decimal parts.0 valid.0)
@@ -171,9 +191,11 @@ IsTame-version parts valid =
 
 -- ---- hexadecimal digits
 
+-- hexadecimal digits
 hex_digit_is_tame : (n : ℕ) → n < 16 → is_tame (slice_index lower_digits n) ≡ true
 hex_digit_is_tame n h = agree_below_at (λ k. is_tame (slice_index lower_digits k)) (λ _. true) 16 n refl h
 
+-- sums in hexadecimal
 pub IsTame-hex : (bytes : List ℕ) → IsBytes bytes → IsTame (encode_lower bytes)
 unfolding encode_with
 IsTame-hex [] are = refl

@@ -1,5 +1,6 @@
 -- Reading a lock file of version 3: the origin's sum, and the pins on packages of the registry. A pin of another kind
 -- is read over: it gives no preference.
+use Rattle.std.specs.Str.{bytes_eq}
 use Rattle.std.specs.Prelude.{◌≡◌, ℕ, ◌+◌, List, [], ◌∷◌, ◌++◌, Bool, codes, Option, Some, None, Ok, option_to_list, if◌then◌else◌}
 use Rattle.std.specs.Cmp.Lexicographic.{slice_cmp}
 use Rattle.std.specs.List.{list_any}
@@ -10,7 +11,6 @@ use Rattle.spm_ident.specs.Identity.{IsIdentity}
 use Rattle.spm_version.specs.Release.{IsValid, Parts}
 use Rattle.spm_version.specs.declared.kind.Kind.TheVariants.{Doubled}
 use Rattle.spm_json.specs.Field.{field_of, optional_field_of}
-use Rattle.spm_json.specs.Names.{same_name}
 use Rattle.spm_json.specs.Reading.{Reading, at_index, fault_here, within, ◌>>=◌}
 use Rattle.spm_json.specs.Shape.{list_of, object_of, text_of, whole_of}
 use Rattle.spm_json.specs.Value.{identity_in, release_reading, version_field}
@@ -21,7 +21,7 @@ Pin = List ℕ × Parts
 
 -- the identity has a pin
 abbrev pub has_pin : List Pin → List ℕ → Bool
-has_pin pins identity = list_any (λ pin. same_name pin.0 identity) pins
+has_pin pins identity = list_any (λ pin. bytes_eq pin.0 identity) pins
 
 -- an identity without one of these names
 abbrev pub new_identity : (List ℕ → Bool) → List ℕ → Reading (List ℕ)
@@ -41,7 +41,7 @@ pin_reading is_doubled d = object_of d >>= λ o.
     field_of text_of (codes "kind") o >>= λ kind.
     field_of text_of (codes "location") o >>= λ location.
     field_of object_of (codes "state") o >>= λ state.
-    if same_name kind (codes "registry") then registry_pin is_doubled identity state else Ok None
+    if bytes_eq kind (codes "registry") then registry_pin is_doubled identity state else Ok None
 
 -- the pins of the items from this place on, behind those before them
 abbrev pub pins_from : ℕ → List Pin → List Data → Reading (List Pin)

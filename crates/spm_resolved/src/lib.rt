@@ -25,6 +25,7 @@
 
 mod laws;
 mod reading;
+mod shared;
 mod writing;
 
 pub use crate::laws::lock_reads_back;

@@ -1,17 +1,19 @@
+ghost use Rattle.std.specs.Str.{bytes_eq};
 ghost use Rattle.std.specs.Prelude.{◌≡◌, ◌||◌, ℕ, List, Some, IfOk, codes, option_to_list};
 ghost use Rattle.serde_json.specs.View.{view};
 ghost use Rattle.spm_json.specs.Field.{field_of};
-ghost use Rattle.spm_json.specs.Names.{has_name, same_name};
+ghost use Rattle.spm_json.specs.Names.{has_name};
 ghost use Rattle.spm_json.specs.Object.{data_of};
 ghost use Rattle.spm_json.specs.Reading.{Gives, GivesBy};
 ghost use Rattle.spm_json.specs.Shape.{object_of};
 ghost use Rattle.spm_resolved.specs.Pin.{identity_unless};
 ghost use Rattle.spm_resolved.specs.Reading.{has_pin, pin_reading, pins_reading, registry_pin, resolved_of, resolved_reading};
 
-use crate::ResolvedFault;
 use serde_json::Value;
 use spm_ident::Identity;
-use spm_json::{FromJson, Names, Object, ReadFault, expect_version, identity, list, read_whole};
+use spm_json::{
+    FromJson, Names, Object, ReadFault, expect_version, identity, list, read_whole, within,
+};
 use spm_version::{Items, Kind, NoMemory, Release, Text};
 use std::alloc::Global;
 
@@ -35,8 +37,8 @@ impl Resolved {
     ///
     /// # Errors
     ///
-    /// The first fault in the reading order, with its place from the document's root, which is `/`, or `Memory`.
-    pub fn read(alloc: Global, bytes: &[u8]) -> Result<Resolved, ResolvedFault>
+    /// The first fault in the reading order, with its place from the document's root, which is `/`; and `Memory`.
+    pub fn read(alloc: Global, bytes: &[u8]) -> Result<Resolved, ReadFault>
         ensures { Gives result (resolved_of bytes.now) }
     {
         read_whole(alloc, bytes)
@@ -75,14 +77,10 @@ impl FromJson for Resolved {
 fn pins_of(alloc: Global, object: &Object) -> Result<Items<(Identity, Release)>, ReadFault>
     ensures { Gives result (field_of pins_reading (codes "pins") (data_of object.now)) }
 {
-    let fault = match object.get("pins") {
-        Some(value) => match pins(alloc, value) {
-            Ok(pins) => return Ok(pins),
-            Err(fault) => fault,
-        },
-        None => ReadFault::here(alloc, Kind::Missing),
-    };
-    Err(fault.under_key(alloc, "pins"))
+    match object.get("pins") {
+        Some(value) => within(alloc, "pins", pins(alloc, value)),
+        None => Err(ReadFault::of_member(alloc, Kind::Missing, "pins")),
+    }
 }
 
 // The pins of a list on packages of the registry. Each identity is looked up in the set of those before it.
@@ -128,14 +126,13 @@ fn pin(
 fn state_of<'v>(alloc: Global, object: &Object<'v>) -> Result<Object<'v>, ReadFault>
     ensures { GivesBy data_of result (field_of object_of (codes "state") (data_of object.now)) }
 {
-    let fault = match object.get("state") {
+    match object.get("state") {
         Some(value) => match Object::of(alloc, value) {
-            Ok(state) => return Ok(state),
-            Err(fault) => fault,
+            Ok(state) => Ok(state),
+            Err(fault) => Err(fault.under_key(alloc, "state")),
         },
-        None => ReadFault::here(alloc, Kind::Missing),
-    };
-    Err(fault.under_key(alloc, "state"))
+        None => Err(ReadFault::of_member(alloc, Kind::Missing, "state")),
+    }
 }
 
 // A pin of the registry: its identity, and then its version.
@@ -147,23 +144,18 @@ fn registry_pin(
 ) -> Result<(Identity, Release), ReadFault>
     ensures pin { GivesBy Some result (registry_pin (has_name met.old) read.now (data_of state.now)) }
     ensures met { IfOk result (λ pin. (other : List ℕ)
-        → has_name met.new other ≡ (same_name pin.0 other || has_name met.old other)) }
+        → has_name met.new other ≡ (bytes_eq pin.0 other || has_name met.old other)) }
 {
-    let identity = match new_identity(alloc, met, read) {
-        Ok(identity) => identity,
-        Err(fault) => return Err(fault.under_key(alloc, "identity")),
-    };
-    match state.field("version") {
-        Ok(release) => Ok((identity, release)),
-        Err(fault) => Err(fault.under_key(alloc, "state")),
-    }
+    let identity = within(alloc, "identity", new_identity(alloc, met, read))?;
+    let release = within(alloc, "state", state.field("version"))?;
+    Ok((identity, release))
 }
 
 // An identity that wasn't met before, and is met now.
 fn new_identity(alloc: Global, met: &mut Names, read: &str) -> Result<Identity, ReadFault>
     ensures identity { Gives result (identity_unless (has_name met.old) read.now) }
     ensures met { IfOk result (λ identity. (other : List ℕ)
-        → has_name met.new other ≡ (same_name identity other || has_name met.old other)) }
+        → has_name met.new other ≡ (bytes_eq identity other || has_name met.old other)) }
 {
     let identity = identity(alloc, read)?;
     if met.insert(alloc, identity.text())? {
@@ -181,19 +173,8 @@ fn copy_pins(
     ensures { IfOk result (λ copy. copy ≡ pins.now) }
 {
     let mut copy = Vec::with_capacity(alloc, pins.len())?;
-    for pin in pins {
-        copy.push(copy_pin(alloc, pin)?)?;
+    for (identity, release) in pins {
+        copy.push((identity.copy(alloc)?, release.copy(alloc)?))?;
     }
     Ok(Items::from_vec(copy))
-}
-
-// A copy of a pin.
-fn copy_pin(alloc: Global, pin: &(Identity, Release)) -> Result<(Identity, Release), NoMemory>
-    ensures { IfOk result (λ copy. copy ≡ pin.now) }
-{
-    let (identity, release) = pin;
-    match identity.copy(alloc) {
-        Ok(identity) => Ok((identity, release.copy(alloc)?)),
-        Err(_) => Err(NoMemory),
-    }
 }

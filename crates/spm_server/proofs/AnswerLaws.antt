@@ -1,8 +1,8 @@
 -- A request has one answer; that to the request for a key is what the shelf has behind it.
 use Rattle.std.proofs.Common.{◌≡◌, ◌≢◌, ℕ, ◌<◌, ◌≤◌, Bool, true, false, List, [], ◌∷◌, ◌++◌, length, Option, Some, Result, Ok, Err, refl, sym, ap, ◌∙◌, subst, arith, append-nil, inl, inr}
-use Rattle.std.specs.Prelude.{◌&&◌, ◌==◌, codes, is_err, nat_le, nat_lt, option_and_then, if◌then◌else◌}
+use Rattle.std.specs.Prelude.{◌==◌, codes, is_err, option_and_then, if◌then◌else◌}
 use Rattle.std.specs.Fmt.{decimal}
-use Rattle.std.proofs.lemmas.Bool.{and_from, cases_Bool, false≢true, le-leb, lt-ltb}
+use Rattle.std.proofs.lemmas.Bool.{cases_Bool, false≢true}
 use Rattle.std.proofs.lemmas.Bool.Decides.{nat_tests}
 use Rattle.std.proofs.lemmas.List.Elements.{All-append, All-cons, All-weaker}
 use Rattle.std.proofs.lemmas.List.Sums.{AllPass-from_list_all}
@@ -31,6 +31,7 @@ use Rattle.spm_server.proofs.WrittenRequests.{accepts_json, accepts_zip, is_writ
 
 -- ---- one answer
 
+-- two readings of a request have one answer
 one_read : (shelf : ShelfFile) (request : List ℕ) (first second : Result RequestHead HttpFault) → ReadsHead first request → ReadsHead second request
     → first ≢ Err Memory → second ≢ Err Memory → read_answer shelf first ≡ read_answer shelf second
 one_read shelf request (Ok first) (Ok second) a b _ _ =
@@ -44,27 +45,33 @@ one_read shelf request (Err Bad) (Ok second) a b _ _ = absurd (a.0 b.head b.rest
 one_read shelf request (Err Memory) (Ok second) a b read _ = absurd (read refl)
 one_read shelf request (Err first) (Err second) a b _ _ = refl
 
+-- a request has one answer
 pub one_answer : (shelf : ShelfFile) (request : List ℕ) (first second : AnswerParts) → IsAnswer shelf request first → IsAnswer shelf request second → first ≡ second
 one_answer shelf request first second a b = a.is ∙ one_read shelf request a.read b.read a.reads b.reads a.is_read b.is_read ∙ sym b.is
 
 -- ---- the head of a request for a key
 
+-- the head that the request for a key has
 abbrev pub sent_head : Base → Key → Head
 sent_head base asked = written_request (key_text asked) (host_field base.to) (accept_for asked)
 
+-- a request is the head that it says
 pub request_is : (base : Base) (asked : Key) → base.prefix ≡ [] → request_for base asked ≡ print_request (sent_head base asked)
 request_is base asked plain =
     ap (λ (prefix : List ℕ). request_text (prefix ++ key_text asked) (host_field base.to) (accept_for asked)) plain
     ∙ request_prints (key_text asked) (host_field base.to) (accept_for asked)
 
+-- a printable character is of ASCII
 printable_low : (byte : ℕ) → is_printable byte ≡ true → byte < 128
 printable_low byte is = grind (arith, nat_tests)
 
+-- a plain host may stand in a field
 host_bytes : (base : Base) → IsPlainBase base → AllPass is_value_byte base.to.host
 host_bytes base plain =
     classes is_printable is_value_byte refl base.to.host
     (All-weaker (λ b. is_printable b ≡ true) (λ b. b < 128) printable_low base.to.host plain.host) plain.host
 
+-- and so it may with its port
 field_bytes : (base : Base) → IsPlainBase base → AllPass is_value_byte (host_field base.to)
 field_bytes base plain =
     let host = host_bytes base plain in
@@ -75,6 +82,7 @@ field_bytes base plain =
       | inr other ↦ subst (λ (b : Bool). AllPass is_value_byte (if b then base.to.host else base.to.host ++ (codes ":" ++ decimal base.to.port))) (sym other) ported
     ]
 
+-- and what is accepted of a key
 accept_bytes : (asked : Key) → AllPass is_value_byte (accept_for asked)
 accept_bytes (key.List identity) = AllPass-from_list_all is_value_byte (accept_for (key.List identity)) refl
 accept_bytes (key.Manifest identity release) = AllPass-from_list_all is_value_byte (accept_for (key.Manifest identity release)) refl
@@ -82,6 +90,7 @@ accept_bytes (key.Release identity release) = AllPass-from_list_all is_value_byt
 accept_bytes (key.Archive identity release) = AllPass-from_list_all is_value_byte (accept_for (key.Archive identity release)) refl
 accept_bytes (key.Identifiers url) = AllPass-from_list_all is_value_byte (accept_for (key.Identifiers url)) refl
 
+-- a request is read as its head
 pub sent_reads : (base : Base) (asked : Key) (found : Option Key) → IsPlainBase base → AsksFor (key_text asked) found
     → ReadsRequest (request_for base asked) (sent_head base asked) []
 sent_reads base asked found plain asks = (
@@ -91,6 +100,7 @@ sent_reads base asked found plain asks = (
   request_is base asked plain.prefix ∙ sym (append-nil (print_request (sent_head base asked))),
 )
 
+-- and what it accepts is found
 pub accepted : (base : Base) (asked : Key) → accept_in (sent_head base asked).fields ≡ Some (accept_for asked)
 accepted base (key.List identity) = accepts_json (host_field base.to)
 accepted base (key.Manifest identity release) = accepts_json (host_field base.to)
@@ -98,6 +108,7 @@ accepted base (key.Release identity release) = accepts_json (host_field base.to)
 accepted base (key.Archive identity release) = accepts_zip (host_field base.to)
 accepted base (key.Identifiers url) = accepts_json (host_field base.to)
 
+-- no key is asked for in another version
 no_other_version : (asked : Key) → asks_other_version (Some (accept_for asked)) ≡ false
 no_other_version (key.List identity) = refl
 no_other_version (key.Manifest identity release) = refl
@@ -133,6 +144,7 @@ sent_is_answered shelf base asked found plain asks fits = record {
   is = sym (head_is_answered shelf base asked found asks);
 }
 
+-- any answer to the request for a key is what the shelf has
 pub key_is_answered : (shelf : ShelfFile) (base : Base) (asked : Key) → IsPlainBase base → IsAskable base asked → (answer : AnswerParts)
     → IsAnswer shelf (request_for base asked) answer → answer ≡ content_answer (content_of shelf asked)
 key_is_answered shelf base asked plain askable answer is =

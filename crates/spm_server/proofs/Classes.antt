@@ -15,14 +15,17 @@ use Rattle.std.proofs.lemmas.Str.Parse.{digit_from_value}
 abbrev pub is_within : (ℕ → Bool) → (ℕ → Bool) → Bool
 is_within first second = agree_below (λ byte. not (first byte) || second byte) (λ byte. true) 128
 
+-- of two bytes' tests, where the first holds so does the second
 then_second : (a b : Bool) → (not a || b) ≡ true → a ≡ true → b ≡ true
 then_second true b either is = either
 then_second false b either is = absurd (false≢true is)
 
+-- a byte of one class is of a wider one
 pub class_of : (first second : ℕ → Bool) → is_within first second ≡ true → (byte : ℕ) → byte < 128 → first byte ≡ true → second byte ≡ true
 class_of first second within byte low is =
     then_second (first byte) (second byte) (agree_below_at (λ b. not (first b) || second b) (λ b. true) 128 byte within low) is
 
+-- and so are the bytes of a text
 pub classes : (first second : ℕ → Bool) → is_within first second ≡ true → (bytes : List ℕ) → All (λ byte. byte < 128) bytes
     → AllPass first bytes → AllPass second bytes
 classes first second within [] low all = All-nil (λ b. second b ≡ true)
@@ -33,22 +36,27 @@ classes first second within (byte ∷ bytes) low all =
 
 -- ---- digits
 
+-- digits are of ASCII
 digits_low : (digits : List ℕ) → AllDigits 10 digits → All (λ byte. byte < 128) digits
 digits_low [] all = All-nil (λ b. b < 128)
 digits_low (digit ∷ digits) all =
     All-cons (λ b. b < 128) digit digits (omega (arith, digit_from_value digit all.0)) (digits_low digits all.1)
 
+-- digits are digits of ASCII
 digits_are : (digits : List ℕ) → AllDigits 10 digits → AllPass is_ascii_digit digits
 digits_are [] all = All-nil (λ b. is_ascii_digit b ≡ true)
 digits_are (digit ∷ digits) all =
     All-cons (λ b. is_ascii_digit b ≡ true) digit digits (let range = digit_from_value digit all.0 in grind (arith, range)) (digits_are digits all.1)
 
+-- a number is written in ASCII
 pub decimal_low : (n : ℕ) → n < 2 ^ 64 → All (λ byte. byte < 128) (decimal n)
 decimal_low n small = digits_low (decimal n) (decimal_is_IsNumeral n small).0.1
 
+-- a number is written in digits
 pub decimal_digits : (n : ℕ) → n < 2 ^ 64 → AllPass is_ascii_digit (decimal n)
 decimal_digits n small = digits_are (decimal n) (decimal_is_IsNumeral n small).0.1
 
+-- a number may stand where digits may
 pub decimal_class : (test : ℕ → Bool) → is_within is_ascii_digit test ≡ true → (n : ℕ) → n < 2 ^ 64 → AllPass test (decimal n)
 decimal_class test within n small = classes is_ascii_digit test within (decimal n) (decimal_low n small) (decimal_digits n small)
 
@@ -58,6 +66,7 @@ module _ (is_separator is_inner : ℕ → Bool) where
   abbrev is_either : ℕ → Bool
   is_either byte = is_inner byte || is_separator byte
 
+  -- a byte before the first part, and the parts
   on_head : (byte : ℕ) (parts : List (List ℕ)) → list_all (list_all is_inner) (onto_first byte parts) ≡ true → (is_inner byte ≡ true) × (list_all (list_all is_inner) parts ≡ true)
   on_head byte [] all = ((and_parts (is_inner byte) true (and_parts (is_inner byte && true) true all).0).0, refl)
   on_head byte (part ∷ parts) all =

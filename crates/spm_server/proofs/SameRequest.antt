@@ -1,4 +1,5 @@
 -- Two keys with one request are one key.
+use Rattle.std.specs.Str.{bytes_eq}
 use Rattle.std.proofs.Common.{◌≡◌, ℕ, ◌-◌, List, [], length, take, Option, Some, None, sym, ap, ◌∙◌, subst, inl, inr}
 use Rattle.std.specs.Prelude.{codes, is_some, option_map, unwrap_or}
 use Rattle.std.proofs.lemmas.Bool.{cases_Bool, false≢true, true≢false}
@@ -7,17 +8,17 @@ use Rattle.httparse.specs.Grammar.{ReadsRequest, RequestHead as Head}
 use Rattle.spm_api.specs.Endpoint.{accept_for, request_for}
 use Rattle.spm_api.specs.declared.base.Base.{Base}
 use Rattle.spm_http.specs.Request.{accept_in}
-use Rattle.spm_json.specs.Names.{same_name}
-use Rattle.spm_key.specs.Key.{key_text}
+use Rattle.spm_key.specs.Key.{IsKey, key_text}
 use Rattle.spm_key.specs.declared.key.Key.{Key}
 use Rattle.spm_key.specs.declared.key.Key.TheVariants as key
-use Rattle.spm_version.specs.Release.{Parts, parts_text, release_of}
-use Rattle.spm_server.specs.Keys.{HasPlainVersion, IsKey}
+use Rattle.spm_version.specs.Release.{Parts, ends_in_zip, parts_text, release_of}
+use Rattle.spm_server.specs.Keys.{HasPlainVersion}
 use Rattle.spm_server.specs.RoundTrip.{IsPlainBase}
-use Rattle.spm_server.specs.Target.{ends_in_zip, key_of_target}
+use Rattle.spm_server.specs.Target.{key_of_target}
 use Rattle.spm_server.proofs.AnswerLaws.{accepted, sent_head, sent_reads}
 use Rattle.spm_server.proofs.Paths.{AsksFor, archive_last, last_asks, list_asks, manifest_asks, nothing_part, path_asks, release_last, target_asks, url_asks, zip_part, zipped_last}
 
+-- what is there is one
 some_is : {A : Type 0} (x y : A) → Some x ≡ Some y → x ≡ y
 some_is x y same = ap (λ found. unwrap_or found x) same
 
@@ -25,8 +26,10 @@ some_is x y same = ap (λ found. unwrap_or found x) same
 record IsTold (asked : Key) : Type 0 where
   pub found : Option Key
   pub asks : AsksFor (key_text asked) found
+  -- a key that is told by its path and by what is accepted
   pub back : (other : Key) → Some other ≡ found → accept_for other ≡ accept_for asked → other ≡ asked
 
+-- a key whose path asks for it is told by that
 itself : (asked : Key) → AsksFor (key_text asked) (Some asked) → IsTold asked
 itself asked asks = record { found = Some asked; asks = asks; back = λ other same _. some_is other asked same }
 
@@ -36,8 +39,9 @@ no_archive : (identity : List ℕ) (release : Parts) (found : Option Parts) (oth
 no_archive identity release None other same accept = absurd (true≢false (ap is_some same))
 no_archive identity release (Some r) other same accept =
     let is : other ≡ key.Archive identity r = some_is other (key.Archive identity r) same in
-    absurd (false≢true (ap (λ (media : List ℕ). same_name media (codes "application/vnd.swift.registry.v1+json")) (sym (ap accept_for is) ∙ accept)))
+    absurd (false≢true (ap (λ (media : List ℕ). bytes_eq media (codes "application/vnd.swift.registry.v1+json")) (sym (ap accept_for is) ∙ accept)))
 
+-- each key is told so
 told : (asked : Key) → IsKey asked → IsTold asked
 told (key.List identity) is = itself (key.List identity) (list_asks identity is)
 told (key.Manifest identity release) is = itself (key.Manifest identity release) (manifest_asks identity is.0 release is.1)
@@ -53,6 +57,7 @@ told (key.Release identity release) is =
 told (key.Archive identity release) is = itself (key.Archive identity release) (last_asks identity is.0 release is.1 (codes ".zip") zip_part (Some (key.Archive identity release)) (archive_last identity release is.1))
 told (key.Identifiers url) is = itself (key.Identifiers url) (url_asks url is)
 
+-- two keys with one request, of which the first has a plain version, are one
 pub same_request : (base : Base) (first second : Key) → IsPlainBase base → IsKey first → HasPlainVersion first → IsKey second
     → request_for base first ≡ request_for base second → first ≡ second
 same_request base first second plain is version other same =

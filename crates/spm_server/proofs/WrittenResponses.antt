@@ -19,12 +19,15 @@ use Rattle.spm_http.specs.declared.response_head.Heard.TheVariants.{Whole, Garbl
 use Rattle.spm_server.proofs.Classes.{decimal_class, decimal_digits}
 use Rattle.spm_server.proofs.WrittenRequests.{field_prints, is_written_field, passes, section_prints, thrice, written_field}
 
+-- the last two fields of a response
 abbrev pub closing : ℕ → List Field
 closing count = written_field (codes "Content-Length") (decimal count) ∷ written_field (codes "Connection") (codes "close") ∷ []
 
+-- its fields
 abbrev pub response_fields : List ℕ → ℕ → List Field
 response_fields kind count = written_field (codes "Content-Version") (codes "1") ∷ written_field (codes "Content-Type") kind ∷ closing count
 
+-- its head as it is written
 abbrev pub written_response : ℕ → List ℕ → List ℕ → ℕ → ResponseHead
 written_response status phrase kind count = record {
   blank = [];
@@ -40,6 +43,7 @@ written_response status phrase kind count = record {
 abbrev pub lines_text : List ℕ → ℕ → List ℕ → List ℕ
 lines_text kind count body = codes "Content-Version: 1\r\nContent-Type: " ++ (kind ++ (codes "\r\nContent-Length: " ++ (decimal count ++ (codes "\r\nConnection: close\r\n\r\n" ++ body))))
 
+-- the section of a response as it is written
 lines_are : (kind : List ℕ) (count : ℕ) (body : List ℕ) → print_section (response_fields kind count) crlf ++ body ≡ lines_text kind count body
 lines_are kind count body =
     ap (λ (bytes : List ℕ). bytes ++ body) (section_prints (written_field (codes "Content-Version") (codes "1")) (written_field (codes "Content-Type") kind ∷ closing count) crlf)
@@ -52,9 +56,11 @@ lines_are kind count body =
     ∙ append_assoc (print_field (written_field (codes "Content-Length") (decimal count))) (print_section (written_field (codes "Connection") (codes "close") ∷ []) crlf) body
     ∙ field_prints (codes "Content-Length") (decimal count) (print_section (written_field (codes "Connection") (codes "close") ∷ []) crlf ++ body)))
 
+-- its whole text
 abbrev pub whole_text : ℕ → List ℕ → List ℕ → ℕ → List ℕ → List ℕ
 whole_text status phrase kind count body = codes "HTTP/1.1 " ++ (decimal status ++ (32 ∷ (phrase ++ (13 ∷ 10 ∷ lines_text kind count body))))
 
+-- a response as it is written
 response_prints : (status : ℕ) (phrase kind : List ℕ) (count : ℕ) (body : List ℕ)
     → print_response (written_response status phrase kind count) ++ body ≡ whole_text status phrase kind count body
 unfolding print_response
@@ -65,6 +71,7 @@ response_prints status phrase kind count body =
     ∙ thrice (decimal status) (32 ∷ phrase) (print_end crlf) (section ++ body)
     ∙ ap (λ (bytes : List ℕ). decimal status ++ (32 ∷ (phrase ++ (13 ∷ 10 ∷ bytes)))) (lines_are kind count body))
 
+-- how long its head is
 text_length : (status : ℕ) (phrase kind : List ℕ) (count : ℕ) (body : List ℕ)
     → length (whole_text status phrase kind count body) ≡ 87 + length (decimal status) + length phrase + length kind + length (decimal count) + length body
 text_length status phrase kind count body =
@@ -80,6 +87,7 @@ text_length status phrase kind count body =
 
 -- ---- its fields
 
+-- a text that begins with no white space is kept
 first_kept : (text : List ℕ) → AllPass (λ byte. not (is_ows byte)) text → skip_ows text ≡ text
 first_kept [] clean = refl
 first_kept (byte ∷ bytes) clean = skip_ows_no refl (sym (not-true (is_ows byte) (All-head (λ b. not (is_ows b) ≡ true) byte bytes clean)))
@@ -89,15 +97,18 @@ pub trimmed : (text : List ℕ) → AllPass (λ byte. not (is_ows byte)) text �
 trimmed text clean =
     trim_ows_space text (first_kept text clean) (first_kept (reverse text) (AllPass-reverse (λ byte. not (is_ows byte)) text clean))
 
+-- it says no encoding
 codings_are : (kind : List ℕ) (count : ℕ) → values_of (codes "transfer-encoding") (response_fields kind count) ≡ []
 codings_are kind count = refl
 
+-- it says one length
 lengths_are : (kind : List ℕ) (count : ℕ) → count < 2 ^ 64 → values_of (codes "content-length") (response_fields kind count) ≡ decimal count ∷ []
 lengths_are kind count small =
     ap (λ (value : List ℕ). value ∷ []) (trimmed (decimal count) (decimal_class (λ byte. not (is_ows byte)) refl count small))
 
 -- ---- what is heard
 
+-- which is one that is read
 is_said : (count : ℕ) → count < 10 ^ 19 → is_length (decimal count) ≡ true
 is_said count small =
     let some = decimal_nonempty count (omega (arith, small)) in
@@ -106,12 +117,14 @@ is_said count small =
     (and_from (nat_lt 0 (length (decimal count))) (nat_le (length (decimal count)) 19) (lt-ltb 0 (length (decimal count)) some) (le-leb (length (decimal count)) 19 short))
     (list_all-from_AllPass is_ascii_digit (decimal count) (decimal_digits count (omega (arith, small))))
 
+-- a body of that length is the whole
 body_is : (status limit : ℕ) (body : List ℕ) → length body ≤ limit → body_of_length status limit (length body) body ≡ Whole status body
 body_is status limit body fits =
     ap (λ (b : Bool). if b then TooLong else if nat_lt (length body) (length body) then Garbled else Whole status (take (length body) body)) (le-ltb limit (length body) fits)
     ∙ ap (λ (b : Bool). if b then Garbled else Whole status (take (length body) body)) (le-ltb (length body) (length body) (omega arith))
     ∙ ap (Whole status) (take_all (length body) body (omega arith))
 
+-- and is heard by its length
 by_length : (status limit : ℕ) (body : List ℕ) → length body < 10 ^ 19 → length body ≤ limit → by_lengths status limit (decimal (length body) ∷ []) body ≡ Whole status body
 by_length status limit body small fits =
     let said = is_said (length body) small in
@@ -124,6 +137,7 @@ module _ (status : ℕ) (some : nat_lt status 200 ≡ false) (has_body : (status
   as_heard code limit codings lengths body =
       if nat_lt code 200 then Garbled else if code == 204 || code == 304 then Whole code [] else by_encodings code limit codings lengths body
 
+  -- so a response is heard with its status and its body
   pub heard_is : (limit : ℕ) (phrase kind body : List ℕ) → length body < 10 ^ 19 → length body ≤ limit
       → heard_of limit (written_response status phrase kind (length body)) body ≡ Whole status body
   heard_is limit phrase kind body small fits =
@@ -134,6 +148,7 @@ module _ (status : ℕ) (some : nat_lt status 200 ≡ false) (has_body : (status
       ∙ ap (λ (b : Bool). if b then Whole status [] else by_lengths status limit (decimal (length body) ∷ []) body) has_body
       ∙ by_length status limit body small fits
 
+  -- what is written as a response is a head
   pub is_written_response : (phrase kind : List ℕ) (count : ℕ) → length (decimal status) ≡ 3 → AllPass is_value_byte phrase → AllPass is_value_byte kind → count < 2 ^ 64
       → IsResponseHead (written_response status phrase kind count)
   unfolding is_token_byte
@@ -166,9 +181,11 @@ module _ (status : ℕ) (kind : List ℕ) (sent : IsSent status kind) (limit : �
   abbrev head : ResponseHead
   head = written_response status (phrase_or_none (reason_phrase status)) kind (length body)
 
+  -- its text is the head and the body
   text_is : response_text status kind body ≡ print_response head ++ body
   text_is = sym (response_prints status (phrase_or_none (reason_phrase status)) kind (length body) body)
 
+  -- the head is short
   head_is_short : length (print_response head) ≤ 500
   head_is_short =
       let text = ap length (response_prints status (phrase_or_none (reason_phrase status)) kind (length body) []) in
@@ -176,6 +193,7 @@ module _ (status : ℕ) (kind : List ℕ) (sent : IsSent status kind) (limit : �
       let digits = length-decimal-le 19 (length body) (omega arith) small (omega (arith, small)) in
       omega (arith, text, long, digits, length-append (print_response head) [], sent.digits, sent.phrase_length, sent.media_length)
 
+  -- the text has that head
   has_response : HasResponse (response_text status kind body) head body
   has_response = record {
     reads = (

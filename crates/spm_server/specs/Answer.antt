@@ -1,4 +1,5 @@
 -- What a server answers to a request: a table, whose first line that applies decides.
+use Rattle.std.specs.Str.{bytes_eq}
 use Rattle.std.specs.Prelude.{◌≡◌, ◌≢◌, ℕ, ◌&&◌, ◌||◌, List, drop, codes, Bool, false, not, nat_eq, Option, Some, None, option_and_then, Result, Ok, Err, if◌then◌else◌}
 use Rattle.std.specs.List.{starts_with}
 use Rattle.serde_json.specs.Written.{compact_text}
@@ -7,7 +8,6 @@ use Rattle.spm_http.specs.Writing.{response_text}
 use Rattle.spm_http.specs.declared.request_head.HttpFault.{HttpFault}
 use Rattle.spm_http.specs.declared.request_head.HttpFault.TheVariants.{Memory}
 use Rattle.spm_http.specs.declared.request_head.RequestHead.{RequestHead}
-use Rattle.spm_json.specs.Names.{same_name}
 use Rattle.spm_shelf.specs.declared.file.ShelfFile.{ShelfFile}
 use Rattle.spm_server.specs.Content.{content_of, media_text}
 use Rattle.spm_server.specs.Problem.{problem_data, status_of}
@@ -28,7 +28,7 @@ content_answer None = problem_answer NoResource
 
 -- what is accepted is of the registry's API (the test is this project's own), in another version than its first
 abbrev pub is_known : List ℕ → Bool
-is_known rest = same_name rest (codes ".v1") || same_name rest (codes ".v1+json") || same_name rest (codes ".v1+zip")
+is_known rest = bytes_eq rest (codes ".v1") || bytes_eq rest (codes ".v1+json") || bytes_eq rest (codes ".v1+zip")
 
 abbrev pub asks_other_version : Option (List ℕ) → Bool
 asks_other_version (Some accept) = starts_with nat_eq accept (codes "application/vnd.swift.registry") && not (is_known (drop 30 accept))
@@ -37,7 +37,7 @@ asks_other_version None = false
 -- a head is answered by its method, by what it accepts, and by its target, in this order
 abbrev pub head_answer : ShelfFile → RequestHead → AnswerParts
 head_answer shelf head =
-    if not (same_name head.method (codes "GET")) then problem_answer NotGet
+    if not (bytes_eq head.method (codes "GET")) then problem_answer NotGet
     else if asks_other_version head.accept then problem_answer OtherVersion
     else content_answer (option_and_then (content_of shelf) (key_of_target head.target))
 

@@ -1,22 +1,22 @@
 -- What a shelf has behind a key: the media type and the body of its resource (SE-0292 and the registry's service specification).
 -- Bodies are compact JSON with sorted keys, a manifest is the shelf's text, an archive its bytes.
+use Rattle.std.specs.Str.{bytes_eq}
 use Rattle.std.specs.Prelude.{ℕ, List, [], ◌∷◌, map, codes, Option, Some, None, option_and_then, option_map, if◌then◌else◌}
 use Rattle.serde_json.specs.Data.{Data, array, item, member, no_items, no_members, object, string}
 use Rattle.serde_json.specs.View.{items_of}
 use Rattle.serde_json.specs.Written.{compact_text}
 use Rattle.spm_digest.specs.Digest.{sha256}
-use Rattle.spm_json.specs.Names.{same_name}
 use Rattle.spm_key.specs.Key.{release_path}
 use Rattle.spm_key.specs.declared.key.Key.{Key}
 use Rattle.spm_key.specs.declared.key.Key.TheVariants as key
 use Rattle.spm_shelf.specs.Shelf.{package_of}
 use Rattle.spm_shelf.specs.ShelfText.{hex_data}
-use Rattle.spm_shelf.specs.Written.{object_with}
+use Rattle.spm_json.specs.Written.{object_with}
 use Rattle.spm_shelf.specs.declared.file.ShelfFile.{ShelfFile}
 use Rattle.spm_shelf.specs.declared.file.ShelfPackage.{ShelfPackage}
 use Rattle.spm_shelf.specs.declared.file.ShelfRelease.{ShelfRelease}
 use Rattle.spm_shelf.specs.declared.file.ShelfUrl.{ShelfUrl}
-use Rattle.spm_shelf.specs.declared.hexadecimal.Checksum.{Checksum}
+use Rattle.spm_shelf.specs.declared.checksum.Checksum.{Checksum}
 use Rattle.spm_version.specs.Release.{Parts, parts_text}
 use Rattle.spm_version.specs.ReleaseLaws.{release_eq}
 use Rattle.spm_server.specs.Problem.{details_data}
@@ -93,7 +93,7 @@ found_release shelf identity release = option_and_then (usable_release release) 
 
 abbrev pub url_of : List ℕ → List ShelfUrl → Option ShelfUrl
 url_of url [] = None
-url_of url (entry ∷ entries) = if same_name entry.url url then Some entry else url_of url entries
+url_of url (entry ∷ entries) = if bytes_eq entry.url url then Some entry else url_of url entries
 
 -- in the shelf's order
 abbrev pub identifiers_data : ShelfUrl → Data

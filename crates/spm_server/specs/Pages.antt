@@ -3,6 +3,7 @@ use Rattle.std.specs.Prelude.{◌≡◌, ℕ, ◌&&◌, List, [], ◌∷◌, ◌
 use Rattle.std.specs.List.{flat_map}
 use Rattle.spm_api.specs.Endpoint.{request_for}
 use Rattle.spm_api.specs.declared.base.Base.{Base}
+use Rattle.spm_key.specs.Key.{IsKey}
 use Rattle.spm_key.specs.declared.key.Key.{Key}
 use Rattle.spm_key.specs.declared.key.Key.TheVariants as key
 use Rattle.spm_outside.specs.Book.{Pages, response_of}
@@ -11,24 +12,22 @@ use Rattle.spm_shelf.specs.declared.file.ShelfFile.{ShelfFile}
 use Rattle.spm_shelf.specs.declared.file.ShelfPackage.{ShelfPackage}
 use Rattle.spm_shelf.specs.declared.file.ShelfRelease.{ShelfRelease}
 use Rattle.spm_shelf.specs.declared.file.ShelfUrl.{ShelfUrl}
-use Rattle.spm_version.specs.Release.{Parts, parts_text}
+use Rattle.spm_version.specs.Release.{Parts, ends_in_zip, parts_text}
 use Rattle.spm_server.specs.Answer.{IsAnswerText, answer_text, content_answer, problem_answer}
 use Rattle.spm_server.specs.Content.{content_of}
-use Rattle.spm_server.specs.Keys.{IsKey}
 use Rattle.spm_server.specs.RoundTrip.{IsAskable}
-use Rattle.spm_server.specs.Target.{ends_in_zip}
 use Rattle.spm_server.specs.declared.problem.Problem.TheVariants.{NoResource}
 
 -- the 404 response
 abbrev pub not_found : List ℕ
 not_found = answer_text (problem_answer NoResource)
 
--- a key whose request fits, and whose version doesn't end in `.zip`, is answered as the server answers its request
+-- the request for a key that fits, and whose version doesn't end in `.zip`, is answered as the server answers it
 abbrev pub AnswersAskable : ShelfFile → Base → Pages → Type 0
 AnswersAskable shelf base pages = (asked : Key) → IsAskable base asked
     → IsAnswerText shelf (request_for base asked) (response_of pages base.to (request_for base asked))
 
--- every other key isn't found
+-- the request for every other key isn't found
 abbrev pub RefusesOthers : Base → Pages → Type 0
 RefusesOthers base pages = (asked : Key) → IsKey asked → ¬ (IsAskable base asked) → response_of pages base.to (request_for base asked) ≡ not_found
 

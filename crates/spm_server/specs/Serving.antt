@@ -5,8 +5,8 @@ use Rattle.spm_http.specs.declared.request_head.HttpFault.{HttpFault}
 use Rattle.spm_http.specs.declared.request_head.HttpFault.TheVariants as fault
 use Rattle.spm_http.specs.declared.request_head.RequestHead.{RequestHead}
 use Rattle.spm_outside.specs.Faults.{Rises}
-use Rattle.spm_outside.specs.declared.peer.PeerFault.{PeerFault}
-use Rattle.spm_outside.specs.declared.peer.PeerFault.TheVariants as peer
+use Rattle.spm_outside.specs.declared.fault.CallFault.{CallFault}
+use Rattle.spm_outside.specs.declared.fault.CallFault.TheVariants as call
 use Rattle.spm_shelf.specs.declared.file.ShelfFile.{ShelfFile}
 use Rattle.spm_server.specs.Answer.{IsAnswer, answer_text}
 use Rattle.spm_server.specs.declared.answering.AnswerParts.{AnswerParts}
@@ -48,6 +48,6 @@ ServeFaultsAfter (Err Peer) old new = Rises old new
 ServeFaultsAfter (Err Memory) old new = new ≡ old
 
 -- what a fault of the peer is to who serves it
-abbrev pub serve_fault : PeerFault → ServeFault
-serve_fault peer.Failed = Peer
-serve_fault peer.Memory = Memory
+abbrev pub serve_fault : CallFault → ServeFault
+serve_fault call.Failed = Peer
+serve_fault call.Memory = Memory

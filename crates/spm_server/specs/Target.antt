@@ -1,15 +1,15 @@
 -- What the target of a request asks for (SE-0292, and the endpoints of the registry's service specification): the key whose path it
 -- is. The scope and the name stand in any case, and the URL of a query is escaped in any way.
+use Rattle.std.specs.Str.{bytes_eq}
 use Rattle.std.specs.Prelude.{ℕ, ◌-◌, ◌==◌, List, [], ◌∷◌, ◌++◌, length, take, drop, codes, Bool, nat_eq, Option, Some, None, option_map, if◌then◌else◌}
-use Rattle.std.specs.List.{ends_with, slice_split, starts_with}
+use Rattle.std.specs.List.{slice_split, starts_with}
 use Rattle.std.specs.Result.{result_ok}
 use Rattle.std.specs.Str.{is_utf8}
 use Rattle.percent_encoding.specs.Percent.{percent_decode}
 use Rattle.spm_ident.specs.Identity.{identity_of}
-use Rattle.spm_json.specs.Names.{same_name}
 use Rattle.spm_key.specs.declared.key.Key.{Key}
 use Rattle.spm_key.specs.declared.key.Key.TheVariants as key
-use Rattle.spm_version.specs.Release.{release_of}
+use Rattle.spm_version.specs.Release.{ends_in_zip, release_of}
 
 -- ---- a query
 
@@ -25,9 +25,6 @@ is_slash byte = byte == 47
 abbrev pub identity_at : List ℕ → List ℕ → Option (List ℕ)
 identity_at scope name = result_ok (identity_of (scope ++ 46 ∷ name))
 
-abbrev pub ends_in_zip : List ℕ → Bool
-ends_in_zip text = ends_with nat_eq text (codes ".zip")
-
 -- an archive where the path ends in `.zip`, or else the release
 abbrev pub last_key : List ℕ → List ℕ → Option Key
 last_key identity last =
@@ -36,7 +33,7 @@ last_key identity last =
 
 abbrev pub file_key : List ℕ → List ℕ → List ℕ → Option Key
 file_key identity version file =
-    if same_name file (codes "Package.json") then option_map (λ release. key.Manifest identity release) (release_of version) else None
+    if bytes_eq file (codes "Package.json") then option_map (λ release. key.Manifest identity release) (release_of version) else None
 
 -- by the parts behind the name of the package
 abbrev pub package_key : List ℕ → List (List ℕ) → Option Key

@@ -1,7 +1,16 @@
 ghost use Rattle.std.specs.Prelude.{◌≡◌, Some, IfOk, option_and_then};
 ghost use Rattle.spm_server.specs.Content.{content_of};
 ghost use Rattle.spm_server.specs.Target.{key_of_target};
-ghost use Rattle.spm_server.specs.Answer.{IsAnswer, IsAnswerText, answer_text, asks_other_version, content_answer, head_answer, is_known, problem_answer};
+ghost use Rattle.spm_server.specs.Answer.{
+  IsAnswer,
+  IsAnswerText,
+  answer_text,
+  asks_other_version,
+  content_answer,
+  head_answer,
+  is_known,
+  problem_answer,
+};
 
 use crate::content::{Content, content_of, details_value};
 use crate::media::Media;
@@ -15,21 +24,17 @@ use std::alloc::Global;
 /// The media type of the registry's API (SE-0292), without its version.
 const MEDIA: &[u8] = b"application/vnd.swift.registry";
 
-/// What is answered to a request.
-#[derive(Debug, Drop)]
-pub struct AnswerParts {
+// What is answered to a request.
+#[derive(Drop)]
+pub(crate) struct AnswerParts {
     pub status: u16,
     pub media: Media,
     pub body: Bytes,
 }
 
 impl AnswerParts {
-    /// The bytes of the response.
-    ///
-    /// # Errors
-    ///
-    /// `NoMemory` alone.
-    pub fn text(&self, alloc: Global) -> Result<Bytes, NoMemory>
+    // The bytes of the response.
+    pub(crate) fn text(&self, alloc: Global) -> Result<Bytes, NoMemory>
         ensures { IfOk result (λ text. text ≡ answer_text self.now) }
     {
         response(alloc, self.status, self.media.text(), self.body.as_slice())
@@ -49,12 +54,12 @@ pub fn answer(alloc: Global, shelf: &Shelf, request: &[u8]) -> Result<Bytes, NoM
     answer.text(alloc)
 }
 
-/// The answer to a request, in its parts.
-///
-/// # Errors
-///
-/// `NoMemory` alone.
-pub fn answer_to(alloc: Global, shelf: &Shelf, request: &[u8]) -> Result<AnswerParts, NoMemory>
+// The answer to a request, in its parts.
+pub(crate) fn answer_to(
+    alloc: Global,
+    shelf: &Shelf,
+    request: &[u8],
+) -> Result<AnswerParts, NoMemory>
     ensures { IfOk result (λ answer. IsAnswer shelf.now request.now answer) }
 {
     match read_request(alloc, request) {
@@ -66,6 +71,7 @@ pub fn answer_to(alloc: Global, shelf: &Shelf, request: &[u8]) -> Result<AnswerP
     }
 }
 
+// The answer that tells a problem.
 pub(crate) fn problem_answer(alloc: Global, problem: Problem) -> Result<AnswerParts, NoMemory>
     ensures { IfOk result (λ answer. answer ≡ problem_answer problem) }
 {
@@ -78,6 +84,7 @@ pub(crate) fn problem_answer(alloc: Global, problem: Problem) -> Result<AnswerPa
     })
 }
 
+// The answer with a resource, or that there is none.
 pub(crate) fn content_answer(
     alloc: Global,
     content: Option<Content>,
@@ -104,6 +111,7 @@ fn asks_other_version(accept: &Option<Bytes>) -> bool
     }
 }
 
+// Whether a text asks for it so.
 fn names_other_version(accept: &[u8]) -> bool
     ensures { result ≡ asks_other_version (Some accept.now) }
 {
@@ -114,6 +122,7 @@ fn names_other_version(accept: &[u8]) -> bool
     !is_known(version)
 }
 
+// Whether this is the first version.
 fn is_known(version: &[u8]) -> bool
     ensures { result ≡ is_known version.now }
 {
@@ -132,6 +141,7 @@ fn target_content(alloc: Global, shelf: &Shelf, target: &[u8]) -> Result<Option<
     }
 }
 
+// The answer to the request with this head.
 fn head_answer(alloc: Global, shelf: &Shelf, head: &RequestHead) -> Result<AnswerParts, NoMemory>
     ensures { IfOk result (λ answer. answer ≡ head_answer shelf.now head.now) }
 {

@@ -6,27 +6,47 @@ ghost use Rattle.serde_json.specs.Data.{array, member, no_members, object, strin
 ghost use Rattle.serde_json.specs.View.{items_of, view};
 ghost use Rattle.serde_json.specs.Written.{has_float};
 ghost use Rattle.spm_key.specs.Key.{release_path};
-ghost use Rattle.spm_shelf.specs.Written.{object_with};
-ghost use Rattle.spm_server.specs.Content.{archive_content, checksum_for, content_of, found_release, identifiers_data, json_content, list_data, listed_pair, manifest_content, metadata_content, metadata_data, metadata_of, place_data, release_in, source_of, unless_problem, url_of, usable_release};
+ghost use Rattle.spm_json.specs.Written.{object_with};
+ghost use Rattle.spm_server.specs.Content.{
+  archive_content,
+  checksum_for,
+  content_of,
+  found_release,
+  identifiers_data,
+  json_content,
+  list_data,
+  listed_pair,
+  manifest_content,
+  metadata_content,
+  metadata_data,
+  metadata_of,
+  place_data,
+  release_in,
+  source_of,
+  unless_problem,
+  url_of,
+  usable_release,
+};
 ghost use Rattle.spm_server.specs.Problem.{details_data};
 
 use crate::media::Media;
 use serde_json::{Value, json};
 use spm_digest::hex_of;
 use spm_ident::Identity;
-use spm_key::Key;
-use spm_shelf::{Archive, Shelf, ShelfPackage, ShelfRelease, ShelfUrl, WrittenObject};
+use spm_json::{WrittenObject, identities_value};
+use spm_key::{Key, release_path};
+use spm_shelf::{Archive, Shelf, ShelfPackage, ShelfRelease, ShelfUrl};
 use spm_version::{Bytes, NoMemory, Release, Text};
-use std::alloc::{AllocError, Global};
+use std::alloc::Global;
 
-/// The resource behind a key.
-#[derive(Debug, Drop)]
-pub struct Content {
+// The resource behind a key.
+#[derive(Drop)]
+pub(crate) struct Content {
     pub media: Media,
     pub body: Bytes,
 }
 
-/// What the shelf has behind a key, if anything.
+// What the shelf has behind a key, if anything.
 pub(crate) fn content_of(
     alloc: Global,
     shelf: &Shelf,
@@ -60,6 +80,7 @@ pub(crate) fn content_of(
 
 // ---- look-ups
 
+// The first release of a package that is this one.
 fn release_in<'s>(release: &Release, entries: &'s [ShelfRelease]) -> Option<&'s ShelfRelease>
     ensures { option_copied result ≡ release_in release.now entries.now }
 {
@@ -82,6 +103,7 @@ fn usable_release<'s>(release: &Release, entry: &'s ShelfPackage) -> Option<&'s 
     }
 }
 
+// The release of a package on the shelf, unless it has a problem.
 fn found_release<'s>(
     shelf: &'s Shelf,
     identity: &Identity,
@@ -93,6 +115,7 @@ fn found_release<'s>(
     usable_release(release, entry)
 }
 
+// The entry of a URL.
 fn url_of<'s>(url: &Text, entries: &'s [ShelfUrl]) -> Option<&'s ShelfUrl>
     ensures { option_copied result ≡ url_of url.now entries.now }
 {
@@ -118,20 +141,20 @@ fn json_content(alloc: Global, value: &Value) -> Result<Content, NoMemory>
     })
 }
 
-/// The members of a problem.
+// The members of a problem.
 pub(crate) fn details_value(
     alloc: Global,
     status: u16,
     title: &str,
     detail: &str,
-) -> Result<Value, AllocError>
+) -> Result<Value, NoMemory>
     ensures { IfOk result (λ value. view value ≡ details_data status title.now detail.now) }
 {
     json!(in alloc; {"detail": detail, "status": status, "title": title})
 }
 
 // A release with this problem, in a list.
-fn gone_value(alloc: Global, problem: &str) -> Result<Value, AllocError>
+fn gone_value(alloc: Global, problem: &str) -> Result<Value, NoMemory>
     ensures { IfOk result (λ value. view value ≡ object (member (codes "problem") (details_data 410 (codes "Gone") problem.now) no_members)) }
 {
     let details = details_value(alloc, 410, "Gone", problem)?;
@@ -139,23 +162,24 @@ fn gone_value(alloc: Global, problem: &str) -> Result<Value, AllocError>
 }
 
 // The path of a release, in a list.
-fn path_value(alloc: Global, identity: &Identity, release: &Release) -> Result<Value, AllocError>
+fn path_value(alloc: Global, identity: &Identity, release: &Release) -> Result<Value, NoMemory>
     ensures { IfOk result (λ value. view value ≡ object (member (codes "url") (string (release_path identity.now release.now [])) no_members)) }
 {
-    let (scope, name) = (identity.scope(), identity.name());
-    let path = format!(in alloc; "/{scope}/{name}/{release}")?;
-    json!(in alloc; {"url": path})
+    let path = release_path(alloc, identity, release, "")?;
+    json!(in alloc; {"url": path.into_string()})
 }
 
+// The place of a release, in a list.
 fn place_value(alloc: Global, identity: &Identity, entry: &ShelfRelease) -> Result<Value, NoMemory>
     ensures { IfOk result (λ value. view value ≡ place_data identity.now entry.now.release entry.now.problem) }
 {
     match &entry.problem {
-        Some(problem) => Ok(gone_value(alloc, problem.as_str())?),
-        None => Ok(path_value(alloc, identity, &entry.release)?),
+        Some(problem) => gone_value(alloc, problem.as_str()),
+        None => path_value(alloc, identity, &entry.release),
     }
 }
 
+// The places of releases, by their versions.
 fn places_value(
     alloc: Global,
     identity: &Identity,
@@ -175,12 +199,14 @@ fn places_value(
     Ok(places.into_value())
 }
 
-fn list_value(alloc: Global, places: Value) -> Result<Value, AllocError>
+// The members of a list.
+fn list_value(alloc: Global, places: Value) -> Result<Value, NoMemory>
     ensures { IfOk result (λ value. view value ≡ object (member (codes "releases") (view places) no_members)) }
 {
     json!(in alloc; {"releases": places})
 }
 
+// The list of a package.
 fn list_content(alloc: Global, entry: &ShelfPackage) -> Result<Content, NoMemory>
     ensures { IfOk result (λ content. content ≡ json_content (list_data entry.now)) }
 {
@@ -189,6 +215,7 @@ fn list_content(alloc: Global, entry: &ShelfPackage) -> Result<Content, NoMemory
     json_content(alloc, &value)
 }
 
+// The manifest of a release, if there is one.
 fn manifest_content(alloc: Global, entry: &ShelfRelease) -> Result<Option<Content>, NoMemory>
     ensures { IfOk result (λ content. content ≡ manifest_content entry.now) }
 {
@@ -201,6 +228,7 @@ fn manifest_content(alloc: Global, entry: &ShelfRelease) -> Result<Option<Conten
     }
 }
 
+// The archive of a release, if there is one.
 fn archive_content(alloc: Global, entry: &ShelfRelease) -> Result<Option<Content>, NoMemory>
     ensures { IfOk result (λ content. content ≡ archive_content entry.now) }
 {
@@ -223,23 +251,21 @@ fn checksum_text(alloc: Global, entry: &ShelfRelease, archive: &Archive) -> Resu
     }
 }
 
-fn source_value(alloc: Global, checksum: &str) -> Result<Value, AllocError>
+// The source archive of a release, as a resource.
+fn source_value(alloc: Global, checksum: &str) -> Result<Value, NoMemory>
     ensures { IfOk result (λ value. view value ≡ source_of (string checksum.now)) }
 {
     json!(in alloc; {"checksum": checksum, "name": "source-archive", "type": "application/zip"})
 }
 
-fn metadata_value(
-    alloc: Global,
-    id: &str,
-    source: Value,
-    version: &str,
-) -> Result<Value, AllocError>
+// The members of a release.
+fn metadata_value(alloc: Global, id: &str, source: Value, version: &str) -> Result<Value, NoMemory>
     ensures { IfOk result (λ value. view value ≡ metadata_of (string id.now) (view source) (string version.now)) }
 {
     json!(in alloc; {"id": id, "metadata": {}, "resources": [source], "version": version})
 }
 
+// The metadata of a release, if it has an archive.
 fn metadata_content(
     alloc: Global,
     identity: &Identity,
@@ -270,22 +296,14 @@ fn archived_content(
     json_content(alloc, &value)
 }
 
-fn identities_value(alloc: Global, identities: &[Identity]) -> Result<Value, NoMemory>
-    ensures { IfOk result (λ value. view value ≡ array (items_of (map string identities.now))) }
-{
-    let mut values = Vec::new(alloc);
-    for identity in identities {
-        values.push(Value::String(String::from_str(alloc, identity.text())?))?;
-    }
-    Ok(Value::Array(values))
-}
-
-fn identifiers_value(alloc: Global, identities: Value) -> Result<Value, AllocError>
+// The members of a look-up.
+fn identifiers_value(alloc: Global, identities: Value) -> Result<Value, NoMemory>
     ensures { IfOk result (λ value. view value ≡ object (member (codes "identifiers") (view identities) no_members)) }
 {
     json!(in alloc; {"identifiers": identities})
 }
 
+// The identities of a URL.
 fn identifiers_content(alloc: Global, entry: &ShelfUrl) -> Result<Content, NoMemory>
     ensures { IfOk result (λ content. content ≡ json_content (identifiers_data entry.now)) }
 {

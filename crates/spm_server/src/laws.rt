@@ -7,9 +7,9 @@ ghost use Rattle.spm_server.specs.Answer.{IsAnswer};
 ghost use Rattle.spm_server.specs.RoundTrip.{ComesBack};
 ghost use Rattle.spm_server.specs.declared.answering.AnswerParts.{AnswerParts};
 
-/// What the server answers to the request for a key is read as status 200 and the shelf's contents where the shelf has the
-/// resource, and else as 404: for a base without prefix whose host is of printable ASCII characters, a request that fits, a body
-/// within its limit and a version that doesn't end in `.zip`.
+/// The request for a key has an answer, which is read as status 200 and the shelf's contents where the shelf has the resource, and
+/// else as 404; no answer to it is read as another reply. That is so for a base without prefix whose host is of printable ASCII
+/// characters, a request that fits, a body within its limit and a version that doesn't end in `.zip`.
 pub fn an_answer_comes_back()
     ensures { (shelf : ShelfFile) (base : Base) (asked : Key) → ComesBack shelf base asked }
 {}

@@ -4,10 +4,10 @@
 //!   request (`ReadsHead` of `spm_http`), then by its method, by what it accepts, and by the key that its target asks for
 //!   (`specs/Target.antt`) and what the shelf has behind that (`specs/Content.antt`). [`serve_connection`] reads a request from a peer
 //!   and writes that answer (`specs/Serving.antt`).
-//! - [`book`] gives the answers to the requests for all keys at a base as fixed replies (`specs/Pages.antt`), where the base is plain
-//!   ([`is_plain_base`]).
-//! - [`an_answer_comes_back`] is the law of the round trip (`specs/RoundTrip.antt`): what is answered to the request for a key is read,
-//!   by `reply_of` of `spm_api`, as the shelf's contents exactly where the shelf has the resource, else as 404.
+//! - [`book`] gives those answers as fixed replies to the requests for the keys at a base, where the base is plain
+//!   ([`is_plain_base`]), and 404 to all else (`specs/Pages.antt`).
+//! - [`an_answer_comes_back`] is the law of the round trip (`specs/RoundTrip.antt`): the request for a key has an answer, and that
+//!   is read, by `reply_of` of `spm_api`, as the shelf's contents where the shelf has the resource, else as 404.
 //!   [`a_request_has_one_answer`] says that the table is a function.
 //!
 //! How the law goes:
@@ -17,7 +17,7 @@
 //! - The request for a key is read as the head that it says (`proofs/WrittenRequests.antt`), and a request has one head
 //!   (`request_unique` of `httparse`); so it is answered with what the shelf has (`proofs/AnswerLaws.antt`).
 //! - A response that was written is heard with its status and its body (`proofs/WrittenResponses.antt`, `ReplyLaws.antt`), and a
-//!   response is one reply (`reply_unique` of `spm_api`).
+//!   response is one reply (`reply_unique` of `spm_api`); so the reply is there (`proofs/RoundTripLaw.antt`).
 //!
 //! The book: two keys with one request are one key (`proofs/SameRequest.antt`), so the first entry with a key's request is that key's
 //! own; and what the shelf has behind a key is in the list of keys (`known` in `proofs/PagesLemmas.antt`).
@@ -33,11 +33,8 @@ mod problem;
 mod serving;
 mod target;
 
-pub use answering::{AnswerParts, answer, answer_to};
-pub use content::Content;
+pub use answering::answer;
 pub use laws::{a_request_has_one_answer, an_answer_comes_back};
-pub use media::Media;
 pub use pages::book;
 pub use plain::is_plain_base;
-pub use problem::Problem;
 pub use serving::{ServeFault, serve_connection};

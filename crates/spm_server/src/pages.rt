@@ -1,14 +1,26 @@
 ghost use Rattle.std.specs.Prelude.{◌≡◌, ◌++◌, ◌∷◌, [], All, IfOk, OnOk, map};
 ghost use Rattle.std.specs.List.{flat_map};
+ghost use Rattle.spm_key.specs.Key.{IsKey};
 ghost use Rattle.spm_key.specs.declared.key.Key.TheVariants as key;
-ghost use Rattle.spm_server.specs.Keys.{IsKey};
-ghost use Rattle.spm_server.specs.Pages.{AnswersAskable, RefusesOthers, entries_for, entries_on, has_plain_version, is_plain_version, keys_on, not_found, package_keys, release_keys, url_key};
+ghost use Rattle.spm_server.specs.Pages.{
+  AnswersAskable,
+  RefusesOthers,
+  entries_for,
+  entries_on,
+  has_plain_version,
+  keys_on,
+  not_found,
+  package_keys,
+  release_keys,
+  url_key,
+};
 ghost use Rattle.spm_server.specs.RoundTrip.{IsPlainBase};
 
 use crate::answering::{content_answer, problem_answer};
 use crate::content::content_of;
 use crate::problem::Problem;
 use spm_api::{Base, request_of};
+use spm_http::MAX_HEAD;
 use spm_ident::Identity;
 use spm_key::Key;
 use spm_outside::{Book, Entry};
@@ -16,12 +28,9 @@ use spm_shelf::{Shelf, ShelfPackage, ShelfRelease, ShelfUrl};
 use spm_version::{Bytes, Items, NoMemory, Release, Text};
 use std::alloc::Global;
 
-/// How many bytes the head of a request may have.
-const MAX_HEAD: usize = 65536;
-
-/// What a server with this shelf answers to the request for each key at the base, as fixed replies: for a key whose request has at
-/// most 65,536 bytes and whose version doesn't end in `.zip` that of [`answer`](crate::answer), for every other key the 404
-/// response.
+/// Fixed replies to requests at the base. For the request for a key that has at most 65,536 bytes, and whose version doesn't end in
+/// `.zip`, that is what the server with this shelf answers ([`answer`](crate::answer)); for the request for every other key, and for
+/// what has no reply of its own, it is the 404 response.
 ///
 /// # Errors
 ///
@@ -74,13 +83,6 @@ fn add_entry(
     Ok(())
 }
 
-fn is_plain_version(alloc: Global, release: &Release) -> Result<bool, NoMemory>
-    ensures { IfOk result (λ plain. plain ≡ is_plain_version release.now) }
-{
-    let text = release.text(alloc)?;
-    Ok(!text.as_str().as_bytes().ends_with(b".zip"))
-}
-
 // Whether the version of a key, if it has one, doesn't end in `.zip`.
 fn has_plain_version(alloc: Global, key: &Key) -> Result<bool, NoMemory>
     ensures { IfOk result (λ plain. plain ≡ has_plain_version key.now) }
@@ -88,47 +90,46 @@ fn has_plain_version(alloc: Global, key: &Key) -> Result<bool, NoMemory>
     match key {
         Key::List(_) | Key::Identifiers(_) => Ok(true),
         Key::Manifest(_, release) | Key::Release(_, release) | Key::Archive(_, release) => {
-            is_plain_version(alloc, release)
+            Ok(!release.ends_in_zip(alloc)?)
         }
     }
 }
 
 // ---- the keys of all that is on a shelf
 
-fn copy_of(alloc: Global, identity: &Identity) -> Result<Identity, NoMemory>
-    ensures same { IfOk result (λ copy. copy ≡ identity.now) }
-{
-    identity.copy(alloc).map_err(|_| NoMemory)
-}
-
+// The key of a package's list.
 fn list_key(alloc: Global, identity: &Identity) -> Result<Key, NoMemory>
     ensures same { IfOk result (λ made. made ≡ key.List identity.now) }
     ensures is { IfOk result IsKey }
 {
-    Ok(Key::List(copy_of(alloc, identity)?))
+    Ok(Key::List(identity.copy(alloc)?))
 }
 
+// The key of a release's manifest.
 fn manifest_key(alloc: Global, identity: &Identity, release: &Release) -> Result<Key, NoMemory>
     ensures same { IfOk result (λ made. made ≡ key.Manifest identity.now release.now) }
     ensures is { IfOk result IsKey }
 {
-    Ok(Key::Manifest(copy_of(alloc, identity)?, release.copy(alloc)?))
+    Ok(Key::Manifest(identity.copy(alloc)?, release.copy(alloc)?))
 }
 
+// The key of what is said of a release.
 fn release_key(alloc: Global, identity: &Identity, release: &Release) -> Result<Key, NoMemory>
     ensures same { IfOk result (λ made. made ≡ key.Release identity.now release.now) }
     ensures is { IfOk result IsKey }
 {
-    Ok(Key::Release(copy_of(alloc, identity)?, release.copy(alloc)?))
+    Ok(Key::Release(identity.copy(alloc)?, release.copy(alloc)?))
 }
 
+// The key of a release's archive.
 fn archive_key(alloc: Global, identity: &Identity, release: &Release) -> Result<Key, NoMemory>
     ensures same { IfOk result (λ made. made ≡ key.Archive identity.now release.now) }
     ensures is { IfOk result IsKey }
 {
-    Ok(Key::Archive(copy_of(alloc, identity)?, release.copy(alloc)?))
+    Ok(Key::Archive(identity.copy(alloc)?, release.copy(alloc)?))
 }
 
+// The key of a URL's identities.
 fn url_key(alloc: Global, url: &str) -> Result<Key, NoMemory>
     ensures same { IfOk result (λ made. made ≡ key.Identifiers url.now) }
     ensures is { IfOk result IsKey }
@@ -136,6 +137,7 @@ fn url_key(alloc: Global, url: &str) -> Result<Key, NoMemory>
     Ok(Key::Identifiers(Text::from_str(alloc, url)?))
 }
 
+// Adds the keys of a release.
 fn add_release_keys(
     alloc: Global,
     identity: &Identity,
@@ -151,6 +153,7 @@ fn add_release_keys(
     Ok(())
 }
 
+// Adds the keys of a package and of its releases.
 fn add_package_keys(
     alloc: Global,
     entry: &ShelfPackage,
@@ -166,6 +169,7 @@ fn add_package_keys(
     Ok(())
 }
 
+// Adds the keys of the URLs.
 fn add_url_keys(alloc: Global, urls: &[ShelfUrl], keys: &mut Vec<Key>) -> Result<(), NoMemory>
     ensures keys { OnOk result (keys.new.items ≡ keys.old.items ++ map url_key urls.now) }
     ensures are { OnOk result (All IsKey keys.old.items → All IsKey keys.new.items) }
@@ -176,6 +180,7 @@ fn add_url_keys(alloc: Global, urls: &[ShelfUrl], keys: &mut Vec<Key>) -> Result
     Ok(())
 }
 
+// The keys of all that is on the shelf.
 fn keys_on(alloc: Global, shelf: &Shelf) -> Result<Vec<Key>, NoMemory>
     ensures keys { IfOk result (λ keys. keys.items ≡ keys_on shelf.now) }
     ensures are { IfOk result (λ keys. All IsKey keys.items) }

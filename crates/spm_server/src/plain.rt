@@ -14,12 +14,14 @@ pub fn is_plain_base(base: &Base) -> bool
     base.prefix.as_str().is_empty() && are_printable(base.to.host.as_str())
 }
 
+// Whether each of the bytes is a printable character of ASCII.
 fn are_printable(text: &str) -> bool
     ensures { result ≡ list_all is_printable text.now }
 {
     text.as_bytes().iter().all(|byte| is_printable(*byte))
 }
 
+// Whether a byte is one.
 fn is_printable(byte: u8) -> bool
     ensures { result ≡ is_printable byte }
 {

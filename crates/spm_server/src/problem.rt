@@ -1,21 +1,21 @@
 ghost use Rattle.std.specs.Prelude.{◌≡◌};
 ghost use Rattle.spm_server.specs.Problem.{detail_of, status_of, title_of};
 
-/// Why a request isn't answered with a resource, in the order of refusal.
-#[derive(Clone, Copy, Debug, PartialEq, Eq)]
-pub enum Problem {
-    /// The bytes are no head of a request.
+// Why a request isn't answered with a resource, in the order of refusal.
+#[derive(Clone, Copy)]
+pub(crate) enum Problem {
+    // The bytes are no head of a request.
     UnreadableRequest,
-    /// The method isn't GET.
+    // The method isn't GET.
     NotGet,
-    /// Another version of the registry's API is asked for.
+    // Another version of the registry's API is asked for.
     OtherVersion,
-    /// The shelf has no such resource.
+    // The shelf has no such resource.
     NoResource,
 }
 
 impl Problem {
-    /// The status of the answer (RFC 9110, section 15).
+    // The status of the answer (RFC 9110, section 15).
     pub fn status(self) -> u16
         ensures { result ≡ status_of self }
     {
@@ -27,7 +27,7 @@ impl Problem {
         }
     }
 
-    /// What the status is called.
+    // What the status is called.
     pub fn title(self) -> &'static str
         ensures { result.now ≡ title_of self }
     {
@@ -39,7 +39,7 @@ impl Problem {
         }
     }
 
-    /// What is wrong.
+    // What is wrong.
     pub fn detail(self) -> &'static str
         ensures { result.now ≡ detail_of self }
     {

@@ -1,19 +1,25 @@
-ghost use Rattle.std.specs.Prelude.{◌≡◌, ℕ, ◌<◌, ◌≤◌, [], ◌++◌, length, take, option_map, IfErr, IfOk, IfSome, IsFalse, IsTrue};
+ghost use Rattle.std.specs.Prelude.{◌≡◌, ◌≤◌, [], length, IfErr, IfOk, IfSome, IsFalse, IsTrue};
 ghost use Rattle.spm_http.specs.Request.{ReadsHead};
-ghost use Rattle.spm_server.specs.Serving.{IsSettled, IsWhole, ServeFaultsAfter, StopsInTime, WritesAnswer, WritesPrefix, serve_fault};
+ghost use Rattle.spm_outside.specs.Sink.{PutsAll};
+ghost use Rattle.spm_server.specs.Serving.{
+  IsSettled,
+  IsWhole,
+  ServeFaultsAfter,
+  StopsInTime,
+  WritesAnswer,
+  WritesPrefix,
+  serve_fault,
+};
 ghost use Rattle.spm_server.specs.declared.serving.ServeFault.TheVariants.{Memory};
 
 use crate::answering::answer_to;
-use spm_http::{HttpFault, read_request};
+use spm_http::{HttpFault, MAX_HEAD, read_request};
 use spm_outside::{Peer, PeerFault};
 use spm_shelf::Shelf;
 use spm_version::NoMemory;
 use std::alloc::{AllocError, Global};
 use std::error::Error;
 use std::fmt;
-
-/// How many bytes a head may have.
-const MAX_HEAD: usize = 65536;
 
 /// How many bytes are read at once.
 const PIECE: usize = 4096;
@@ -37,14 +43,6 @@ impl fmt::Display for ServeFault {
 }
 
 impl Error for ServeFault {}
-
-impl From<NoMemory> for ServeFault {
-    ghost from_gives = { λ _ e. e ≡ Memory };
-
-    fn from(_e: NoMemory) -> ServeFault {
-        ServeFault::Memory
-    }
-}
 
 impl From<AllocError> for ServeFault {
     ghost from_gives = { λ _ e. e ≡ Memory };
@@ -77,16 +75,16 @@ pub fn serve_connection<P: Peer>(
     shelf: &Shelf,
     peer: &mut P,
 ) -> Result<u16, ServeFault>
-    requires { IfSome (P.taken peer.old) (λ taken. taken ≡ []) }
-    ensures answered { IfOk result (λ status. IfSome (P.taken peer.new)
-        (λ taken. WritesAnswer shelf.now taken status (P.written peer.old) (P.written peer.new))) }
-    ensures whole { IfOk result (λ status. IfSome (P.taken peer.new) (λ taken. IsWhole taken (P.rest peer.new))) }
-    ensures cut { IfErr result (λ fault. IfSome (P.taken peer.new)
-        (λ taken. WritesPrefix shelf.now taken (P.written peer.old) (P.written peer.new))) }
+    requires { IfSome (P.state peer.old).taken (λ taken. taken ≡ []) }
+    ensures answered { IfOk result (λ status. IfSome (P.state peer.new).taken
+        (λ taken. WritesAnswer shelf.now taken status (P.state peer.old).written (P.state peer.new).written)) }
+    ensures whole { IfOk result (λ status. IfSome (P.state peer.new).taken (λ taken. IsWhole taken (P.state peer.new).rest)) }
+    ensures cut { IfErr result (λ fault. IfSome (P.state peer.new).taken
+        (λ taken. WritesPrefix shelf.now taken (P.state peer.old).written (P.state peer.new).written)) }
     // No more is read than a head may have, and at most one piece behind an unfinished head.
-    ensures within { IfSome (P.taken peer.new) (λ taken. length taken ≤ 65536) }
-    ensures in_time { IfSome (P.taken peer.new) StopsInTime }
-    ensures faults { ServeFaultsAfter result (P.faults peer.old) (P.faults peer.new) }
+    ensures within { IfSome (P.state peer.new).taken (λ taken. length taken ≤ 65536) }
+    ensures in_time { IfSome (P.state peer.new).taken StopsInTime }
+    ensures faults { ServeFaultsAfter result (P.state peer.old).faults (P.state peer.new).faults }
 {
     let request = take_request(alloc, peer)?;
     let answer = answer_to(alloc, shelf, request.as_slice())?;
@@ -97,13 +95,13 @@ pub fn serve_connection<P: Peer>(
 
 // Reads until the bytes are a head of a request or none, the peer has no more, or they are as many as a head may have.
 fn take_request<P: Peer>(alloc: Global, peer: &mut P) -> Result<Vec<u8>, ServeFault>
-    requires { IfSome (P.taken peer.old) (λ taken. taken ≡ []) }
-    ensures taken { IfOk result (λ request. IfSome (P.taken peer.new) (λ taken. taken ≡ request.items)) }
-    ensures whole { IfOk result (λ request. IsWhole request.items (P.rest peer.new)) }
-    ensures within { IfSome (P.taken peer.new) (λ taken. length taken ≤ 65536) }
-    ensures in_time { IfSome (P.taken peer.new) StopsInTime }
-    ensures written { P.written peer.new ≡ P.written peer.old }
-    ensures faults { ServeFaultsAfter result (P.faults peer.old) (P.faults peer.new) }
+    requires { IfSome (P.state peer.old).taken (λ taken. taken ≡ []) }
+    ensures taken { IfOk result (λ request. IfSome (P.state peer.new).taken (λ taken. taken ≡ request.items)) }
+    ensures whole { IfOk result (λ request. IsWhole request.items (P.state peer.new).rest) }
+    ensures within { IfSome (P.state peer.new).taken (λ taken. length taken ≤ 65536) }
+    ensures in_time { IfSome (P.state peer.new).taken StopsInTime }
+    ensures written { (P.state peer.new).written ≡ (P.state peer.old).written }
+    ensures faults { ServeFaultsAfter result (P.state peer.old).faults (P.state peer.new).faults }
 {
     let mut request = Vec::new(alloc);
     let mut piece = [0; PIECE];
@@ -135,12 +133,10 @@ fn is_settled(alloc: Global, bytes: &[u8]) -> Result<bool, NoMemory>
 
 // Writes all of the text, in as many puts as the peer needs.
 fn send<P: Peer>(peer: &mut P, text: &[u8]) -> Result<(), ServeFault>
-    ensures sent { IfOk result (λ _. P.written peer.new ≡ option_map (λ bytes. bytes ++ text.now) (P.written peer.old)) }
-    ensures cut { IfErr result (λ _. (count : ℕ) × (count < length text.now)
-        × (P.written peer.new ≡ option_map (λ bytes. bytes ++ take count text.now) (P.written peer.old))) }
-    ensures taken { P.taken peer.new ≡ P.taken peer.old }
-    ensures rest { P.rest peer.new ≡ P.rest peer.old }
-    ensures faults { ServeFaultsAfter result (P.faults peer.old) (P.faults peer.new) }
+    ensures written { PutsAll result text.now (P.state peer.old).written (P.state peer.new).written }
+    ensures taken { (P.state peer.new).taken ≡ (P.state peer.old).taken }
+    ensures rest { (P.state peer.new).rest ≡ (P.state peer.old).rest }
+    ensures faults { ServeFaultsAfter result (P.state peer.old).faults (P.state peer.new).faults }
 {
     let mut done = 0;
     while done < text.len() {

@@ -2,17 +2,27 @@
 ghost use Rattle.std.specs.Prelude.{◌≡◌, ◌∷◌, IfOk, [], List, ℕ, Option};
 ghost use Rattle.std.specs.List.{slice_split};
 ghost use Rattle.percent_encoding.specs.Percent.{percent_decode};
-ghost use Rattle.spm_version.specs.Release.{release_of};
-ghost use Rattle.spm_server.specs.Target.{file_key, identity_at, is_slash, key_of_target, last_key, package_key, parts_key, text_key, url_key};
+ghost use Rattle.spm_server.specs.Target.{
+  file_key,
+  identity_at,
+  is_slash,
+  key_of_target,
+  last_key,
+  package_key,
+  parts_key,
+  text_key,
+  url_key,
+};
 ghost use Rattle.spm_server.specs.Cut.{parts_behind};
 
 use percent_encoding::percent_decode;
-use spm_ident::{IdentFault, Identity};
+use spm_api::{identity_of, release_of};
+use spm_ident::Identity;
 use spm_key::Key;
-use spm_version::{NoMemory, Release, Text, VersionFault};
+use spm_version::{NoMemory, Text};
 use std::alloc::Global;
 
-/// The key whose path the target is, if it is one.
+// The key whose path the target is, if it is one.
 pub(crate) fn key_of_target(alloc: Global, target: &[u8]) -> Result<Option<Key>, NoMemory>
     ensures { IfOk result (λ key. key ≡ key_of_target target.now) }
 {
@@ -25,6 +35,7 @@ pub(crate) fn key_of_target(alloc: Global, target: &[u8]) -> Result<Option<Key>,
 /// What stands before the URL of a query.
 const QUERY: &[u8] = b"/identifiers?url=";
 
+// The key of a target that is a text.
 fn text_key(alloc: Global, target: &str) -> Result<Option<Key>, NoMemory>
     ensures { IfOk result (λ key. key ≡ text_key target.now) }
 {
@@ -59,6 +70,7 @@ fn cut(path: &str) -> (&str, Option<&str>)
     }
 }
 
+// The key of a path.
 fn path_key(alloc: Global, path: &str) -> Result<Option<Key>, NoMemory>
     ensures { IfOk result (λ key. key ≡ parts_key (slice_split is_slash path.now)) }
 {
@@ -78,15 +90,12 @@ fn path_key(alloc: Global, path: &str) -> Result<Option<Key>, NoMemory>
     }
 }
 
+// The identity of a scope and a name.
 fn identity_at(alloc: Global, scope: &str, name: &str) -> Result<Option<Identity>, NoMemory>
     ensures { IfOk result (λ identity. identity ≡ identity_at scope.now name.now) }
 {
     let text = format!(in alloc; "{scope}.{name}")?;
-    match Identity::parse(alloc, text.as_str()) {
-        Ok(identity) => Ok(Some(identity)),
-        Err(IdentFault::Memory) => Err(NoMemory),
-        Err(_) => Ok(None),
-    }
+    identity_of(alloc, text.as_str())
 }
 
 // By what stands behind the name of the package.
@@ -110,32 +119,23 @@ fn package_key(
     }
 }
 
-fn release_at(alloc: Global, text: &str) -> Result<Option<Release>, NoMemory>
-    ensures { IfOk result (λ release. release ≡ release_of text.now) }
-{
-    match Release::parse(alloc, text) {
-        Ok(release) => Ok(Some(release)),
-        Err(VersionFault::BadVersion) => Ok(None),
-        Err(VersionFault::Memory) => Err(NoMemory),
-    }
-}
-
 // An archive where the path ends in `.zip`, or else the release.
 fn last_key(alloc: Global, identity: Identity, last: &str) -> Result<Option<Key>, NoMemory>
     ensures { IfOk result (λ key. key ≡ last_key identity last.now) }
 {
     match last.strip_suffix(".zip") {
-        Some(version) => match release_at(alloc, version)? {
+        Some(version) => match release_of(alloc, version)? {
             Some(release) => Ok(Some(Key::Archive(identity, release))),
             None => Ok(None),
         },
-        None => match release_at(alloc, last)? {
+        None => match release_of(alloc, last)? {
             Some(release) => Ok(Some(Key::Release(identity, release))),
             None => Ok(None),
         },
     }
 }
 
+// A manifest where the file is `Package.json`.
 fn file_key(
     alloc: Global,
     identity: Identity,
@@ -147,7 +147,7 @@ fn file_key(
     if file != "Package.json" {
         return Ok(None);
     }
-    match release_at(alloc, version)? {
+    match release_of(alloc, version)? {
         Some(release) => Ok(Some(Key::Manifest(identity, release))),
         None => Ok(None),
     }

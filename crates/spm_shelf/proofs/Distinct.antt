@@ -1,6 +1,6 @@
 -- A shelf file that was read has each identity once.
 use Rattle.std.specs.Prelude.{codes}
-use Rattle.std.proofs.Common.{◌≡◌, ℕ, ◌≤◌, Bool, true, false, List, [], ◌∷◌, ◌++◌, Option, Some, None, Ok, Err, cond, if◌then◌else◌, refl, ap, inl, inr, subst, arith}
+use Rattle.std.proofs.Common.{◌≡◌, ℕ, ◌≤◌, Bool, true, false, List, [], ◌∷◌, ◌++◌, Ok, Err, cond, if◌then◌else◌, refl, ap, inl, inr, subst, arith}
 use Rattle.std.specs.List.{list_any, sum_by}
 use Rattle.std.proofs.lemmas.Bool.{cases_Bool, or_parts}
 use Rattle.std.proofs.lemmas.List.Sums.{sum_by-cons, sum_by_push}
@@ -8,55 +8,24 @@ use Rattle.std.proofs.lemmas.Slice.Eq.{bytes_eq-Decides}
 use Rattle.serde_json.specs.Data.{Data}
 use Rattle.serde_json.specs.Find.{as_object, get}
 use Rattle.spm_version.specs.declared.kind.Kind.TheVariants.{Doubled, WrongKind}
-use Rattle.spm_json.specs.Reading.{Reading, at_foreign_key, fault_here, in_document, or_fault, within, ◌>>=◌}
+use Rattle.spm_json.specs.Reading.{Reading, at_foreign_key, fault_here, or_fault, ◌>>=◌}
 use Rattle.spm_json.specs.Field.{field_of, optional_field_of, required_in}
 use Rattle.spm_json.specs.Sequence.{members_after, members_of}
 use Rattle.spm_json.specs.Shape.{document_of, member_list, object_of}
 use Rattle.spm_json.specs.Value.{identity_in}
-use Rattle.spm_shelf.specs.Shelf.{file_reading, is_package, not_doubled, package_member, packages_reading, release_member, shelf_of, urls_in, urls_reading}
-use Rattle.spm_shelf.specs.declared.file.Packages.{Packages}
+use Rattle.spm_shelf.specs.File.{file_reading, is_package, not_doubled, package_member, packages_reading, release_member, shelf_of, urls_in, urls_reading}
+use Rattle.spm_shelf.proofs.Readings.{IfReads, both, in_the_document, next_alone, of_the_value, under_a_foreign_key, where_it_is, within_a_member}
 use Rattle.spm_shelf.specs.declared.file.ShelfFile.{ShelfFile}
 use Rattle.spm_shelf.specs.declared.file.ShelfPackage.{ShelfPackage}
 use Rattle.spm_shelf.specs.declared.file.ShelfRelease.{ShelfRelease}
 
--- ---- what holds of each value that is read
-
-abbrev IfReads : {A : Type 0} → (A → Type 0) → Reading A → Type 0
-IfReads P (Ok x) = P x
-IfReads P (Err fault) = Unit {0}
-
-both : {A B : Type 0} (P : A → Type 0) (Q : B → Type 0) (reading : Reading A) (next : A → Reading B) → IfReads P reading → ((x : A) → P x → IfReads Q (next x)) → IfReads Q (reading >>= next)
-both P Q (Ok x) next first onward = onward x first
-both P Q (Err fault) next first onward = tt
-
-next_alone : {A B : Type 0} (Q : B → Type 0) (reading : Reading A) (next : A → Reading B) → ((x : A) → IfReads Q (next x)) → IfReads Q (reading >>= next)
-next_alone Q (Ok x) next onward = onward x
-next_alone Q (Err fault) next onward = tt
-
-within_a_member : {A : Type 0} (P : A → Type 0) (key : List ℕ) (reading : Reading A) → IfReads P reading → IfReads P (within key reading)
-within_a_member P key (Ok x) h = h
-within_a_member P key (Err fault) h = tt
-
-where_it_is : {A : Type 0} (P : A → Type 0) (reading : Data → Reading A) (found : Option Data) → ((d : Data) → IfReads P (reading d)) → IfReads P (required_in reading found)
-where_it_is P reading (Some d) h = h d
-where_it_is P reading None h = tt
-
-under_a_foreign_key : {A : Type 0} (P : A → Type 0) (reading : Reading A) → IfReads P reading → IfReads P (at_foreign_key reading)
-under_a_foreign_key P (Ok x) h = h
-under_a_foreign_key P (Err fault) h = tt
-
-in_the_document : {A : Type 0} (P : A → Type 0) (reading : Reading A) → IfReads P reading → IfReads P (in_document reading)
-in_the_document P (Ok x) h = h
-in_the_document P (Err fault) h = tt
-
-of_the_value : {A : Type 0} (P : A → Type 0) (reading : Reading A) (x : A) → IfReads P reading → reading ≡ Ok x → P x
-of_the_value P reading x h is = subst (IfReads P) is h
-
 -- ---- each identity once
 
+-- 1 for a package with the identity
 abbrev pub is_counted : List ℕ → ShelfPackage → ℕ
 is_counted identity entry = cond (is_package identity entry) 1 0
 
+-- each identity is counted once at most
 abbrev pub AreDistinct : List ShelfPackage → Type 0
 AreDistinct entries = (identity : List ℕ) → sum_by (is_counted identity) entries ≤ 1
 
@@ -64,6 +33,7 @@ AreDistinct entries = (identity : List ℕ) → sum_by (is_counted identity) ent
 abbrev IsNew : List ShelfPackage → ShelfPackage → Type 0
 IsNew earlier entry = list_any (is_package entry.identity) earlier ≡ false
 
+-- no package is counted for an identity that none has
 none_counted : (identity : List ℕ) (entries : List ShelfPackage) → list_any (is_package identity) entries ≡ false → sum_by (is_counted identity) entries ≡ 0
 none_counted identity [] none = refl
 none_counted identity (entry ∷ entries) none =
@@ -72,6 +42,7 @@ none_counted identity (entry ∷ entries) none =
     let rest = none_counted identity entries parts.1 in
     omega (arith, sum_by-cons (is_counted identity) entry entries, first, rest)
 
+-- one more package, of a new identity
 AreDistinct-push : (entries : List ShelfPackage) (entry : ShelfPackage) → AreDistinct entries → IsNew entries entry → AreDistinct (entries ++ entry ∷ [])
 AreDistinct-push entries entry distinct new = λ identity.
     let total = sum_by_push (is_counted identity) entries entry in
@@ -89,18 +60,21 @@ AreDistinct-push entries entry distinct new = λ identity.
 
 -- ---- the packages of a file
 
+-- a package is read only where its identity is new
 new_when : (earlier : List ShelfPackage) (identity : List ℕ) (is_doubled : Bool) (releases : Reading (List ShelfRelease)) → list_any (is_package identity) earlier ≡ is_doubled
     → IfReads (IsNew earlier) ((if is_doubled then fault_here Doubled else Ok identity) >>= λ new. releases >>= λ read. Ok (record { identity = new; releases = read }))
 new_when earlier identity true releases is = tt
 new_when earlier identity false (Ok read) is = is
 new_when earlier identity false (Err fault) is = tt
 
+-- so each package that is read is new
 package_is_new : (earlier : List ShelfPackage) (key : List ℕ) (d : Data) → IfReads (IsNew earlier) (package_member earlier key d)
 package_is_new earlier key d =
     next_alone (IsNew earlier) (identity_in key)
     (λ read. not_doubled earlier read >>= λ identity. members_of release_member d >>= λ releases. Ok (record { identity = identity; releases = releases }))
     (λ read. new_when earlier read (list_any (is_package read) earlier) (members_of release_member d) refl)
 
+-- packages that are read behind distinct ones are distinct
 packages_are_distinct : (earlier : List ShelfPackage) (members : List (List ℕ × Data)) → AreDistinct earlier → IfReads AreDistinct (members_after package_member earlier members)
 packages_are_distinct earlier [] distinct = distinct
 packages_are_distinct earlier (m ∷ members) distinct =
@@ -108,29 +82,27 @@ packages_are_distinct earlier (m ∷ members) distinct =
     (under_a_foreign_key (IsNew earlier) (package_member earlier m.0 m.1) (package_is_new earlier m.0 m.1))
     (λ entry new. packages_are_distinct (earlier ++ entry ∷ []) members (AreDistinct-push earlier entry distinct new))
 
+-- so are an object's
 of_an_object : (d : Data) → IfReads AreDistinct (members_of package_member d)
 of_an_object d =
     next_alone AreDistinct (or_fault WrongKind (as_object d)) (λ members. members_after package_member [] (member_list members))
     (λ members. packages_are_distinct [] (member_list members) (λ identity. omega arith))
 
-abbrev HasDistinct : Packages → Type 0
-HasDistinct packages = AreDistinct packages.packages
-
-of_packages : (d : Data) → IfReads HasDistinct (packages_reading d)
-of_packages d = both AreDistinct HasDistinct (members_of package_member d) (λ packages. Ok (record { packages = packages })) (of_an_object d) (λ packages distinct. distinct)
-
+-- a file of distinct packages
 abbrev pub IsFileOfDistinct : ShelfFile → Type 0
 IsFileOfDistinct file = AreDistinct file.packages
 
+-- so are a file's
 of_file : (d : Data) → IfReads IsFileOfDistinct (file_reading d)
 of_file d =
     next_alone IsFileOfDistinct (object_of d)
-    (λ o. field_of packages_reading (codes "packages") o >>= λ packages. optional_field_of urls_reading (codes "urls") o >>= λ urls. Ok (record { packages = packages.packages; urls = urls_in urls }))
-    (λ o. both HasDistinct IsFileOfDistinct (field_of packages_reading (codes "packages") o)
-    (λ packages. optional_field_of urls_reading (codes "urls") o >>= λ urls. Ok (record { packages = packages.packages; urls = urls_in urls }))
-    (within_a_member HasDistinct (codes "packages") (required_in packages_reading (get (codes "packages") o)) (where_it_is HasDistinct packages_reading (get (codes "packages") o) of_packages))
-    (λ packages distinct. next_alone IsFileOfDistinct (optional_field_of urls_reading (codes "urls") o) (λ urls. Ok (record { packages = packages.packages; urls = urls_in urls })) (λ urls. distinct)))
+    (λ o. field_of packages_reading (codes "packages") o >>= λ packages. optional_field_of urls_reading (codes "urls") o >>= λ urls. Ok (record { packages = packages; urls = urls_in urls }))
+    (λ o. both AreDistinct IsFileOfDistinct (field_of packages_reading (codes "packages") o)
+    (λ packages. optional_field_of urls_reading (codes "urls") o >>= λ urls. Ok (record { packages = packages; urls = urls_in urls }))
+    (within_a_member AreDistinct (codes "packages") (required_in packages_reading (get (codes "packages") o)) (where_it_is AreDistinct packages_reading (get (codes "packages") o) of_an_object))
+    (λ packages distinct. next_alone IsFileOfDistinct (optional_field_of urls_reading (codes "urls") o) (λ urls. Ok (record { packages = packages; urls = urls_in urls })) (λ urls. distinct)))
 
+-- a file that was read has distinct packages
 pub AreDistinct-shelf_of : (bytes : List ℕ) (file : ShelfFile) → shelf_of bytes ≡ Ok file → AreDistinct file.packages
 AreDistinct-shelf_of bytes file is =
     of_the_value IsFileOfDistinct (shelf_of bytes) file

@@ -6,21 +6,24 @@ use Rattle.serde_json.specs.Data.{Data}
 use Rattle.spm_json.specs.Reading.{at_foreign_key, ◌>>=◌}
 use Rattle.spm_json.specs.Sequence.{members_after}
 use Rattle.spm_shelf.specs.NewPackage.{package_unless}
-use Rattle.spm_shelf.specs.Shelf.{is_package, package_member}
+use Rattle.spm_shelf.specs.File.{is_package, package_member}
 use Rattle.spm_shelf.specs.declared.file.ShelfPackage.{ShelfPackage}
 
+-- a truth stands before another as behind it
 or_behind : (first second : Bool) → (first || second) ≡ (second || (first || false))
 or_behind true true = refl
 or_behind true false = refl
 or_behind false true = refl
 or_behind false false = refl
 
+-- the identities that were met with one package more
 pub met_more : (packages : List ShelfPackage) (entry : ShelfPackage) (identity : List ℕ) (before after : Bool) → before ≡ list_any (is_package identity) packages
     → after ≡ (is_package identity entry || before) → after ≡ list_any (is_package identity) (packages ++ entry ∷ [])
 met_more packages entry identity before after is more =
     more ∙ ap (λ met. is_package identity entry || met) is ∙ or_behind (is_package identity entry) (list_any (is_package identity) packages)
     ∙ sym (list_any-append (is_package identity) packages (entry ∷ []))
 
+-- the members behind a package that was read
 pub members_more : (is_met : List ℕ → Bool) (packages : List ShelfPackage) (key : List ℕ) (d : Data) (entry : ShelfPackage) (members : List (List ℕ × Data))
     → ((identity : List ℕ) → is_met identity ≡ list_any (is_package identity) packages) → package_unless is_met key d ≡ Ok entry
     → members_after package_member packages ((key, d) ∷ members) ≡ members_after package_member (packages ++ entry ∷ []) members

@@ -1,5 +1,4 @@
-pub mod Shelf
+pub mod File
 pub mod NewPackage
-pub mod MembersCode
-pub mod Written
+pub mod Shelf
 pub mod ShelfText

@@ -5,7 +5,7 @@ use Rattle.spm_version.specs.declared.kind.Kind.TheVariants.{Doubled}
 use Rattle.spm_json.specs.Reading.{Reading, fault_here, ◌>>=◌}
 use Rattle.spm_json.specs.Sequence.{members_of}
 use Rattle.spm_json.specs.Value.{identity_in}
-use Rattle.spm_shelf.specs.Shelf.{release_member}
+use Rattle.spm_shelf.specs.File.{release_member}
 use Rattle.spm_shelf.specs.declared.file.ShelfPackage.{ShelfPackage}
 
 -- a package without one of these identities

@@ -1,95 +1,44 @@
--- A shelf file: what a registry has. `{"packages":{IDENTITY:{VERSION:RELEASE}},"urls":{URL:[IDENTITY]}}`, where a
--- RELEASE has a problem, or a manifest and an archive, and may say a checksum.
-use Rattle.std.specs.Prelude.{◌≡◌, ℕ, List, [], ◌∷◌, All, Bool, true, codes, nat_eq, Option, Some, None, Result, Ok, Err, if◌then◌else◌}
-use Rattle.std.specs.Cmp.Lexicographic.{pointwise, slice_cmp}
-use Rattle.std.specs.List.{list_any}
-use Rattle.std.specs.List.Sorted.{IsPermutation}
-use Rattle.std.specs.Ordering.{is_lt, nat_cmp}
-use Rattle.std.specs.Result.{result_ok}
-use Rattle.serde_json.specs.Data.{Data}
-use Rattle.spm_digest.specs.Digest.{decode_of, sum_of}
-use Rattle.spm_version.specs.declared.kind.Kind.TheVariants.{BadHex, Doubled}
-use Rattle.spm_json.specs.Reading.{Fails, Reading, fault_here, or_fault, ◌>>=◌}
-use Rattle.spm_json.specs.Shape.{object_of, text_of, whole_of}
-use Rattle.spm_json.specs.Field.{field_of, needed_field_of, optional_field_of}
-use Rattle.spm_json.specs.Sequence.{items_of, members_of}
-use Rattle.spm_json.specs.Value.{identity_in, identity_reading, release_in}
+-- What a registry has: a file's packages in the order of their identities, each once, and its URLs in byte order.
+use Rattle.std.specs.Prelude.{◌≡◌, ℕ, List, [], ◌∷◌, All, IsNone, IsSome, map, Option, Some, None, Result, Ok, Err, if◌then◌else◌}
+use Rattle.std.specs.Cmp.Lexicographic.{slice_cmp}
+use Rattle.std.specs.List.Sorted.{IsPermutation, IsStrictlySortedBy}
+use Rattle.std.specs.Ordering.{nat_cmp}
+use Rattle.spm_version.specs.Release.{parts_text}
+use Rattle.spm_json.specs.Reading.{Fails, Reading}
 use Rattle.spm_json.specs.declared.fault.ReadFault.{ReadFault}
-use Rattle.spm_shelf.specs.declared.file.Packages.{Packages}
+use Rattle.spm_shelf.specs.File.{is_package}
 use Rattle.spm_shelf.specs.declared.file.ShelfFile.{ShelfFile}
 use Rattle.spm_shelf.specs.declared.file.ShelfPackage.{ShelfPackage}
 use Rattle.spm_shelf.specs.declared.file.ShelfRelease.{ShelfRelease}
 use Rattle.spm_shelf.specs.declared.file.ShelfUrl.{ShelfUrl}
-use Rattle.spm_shelf.specs.declared.file.Urls.{Urls}
-use Rattle.spm_shelf.specs.declared.hexadecimal.Checksum.{Checksum}
 
--- an archive: its bytes in hexadecimal
-abbrev pub archive_reading : Data → Reading (List ℕ)
-archive_reading d = text_of d >>= λ text. or_fault BadHex (result_ok (decode_of text))
+-- strictly ascending by their bytes
+abbrev pub Ascend : List (List ℕ) → Type 0
+Ascend texts = IsStrictlySortedBy (slice_cmp nat_cmp) texts
 
--- 64 hexadecimal digits
-abbrev pub checksum_reading : Data → Reading Checksum
-checksum_reading d = text_of d >>= λ text. or_fault BadHex (sum_of text) >>= λ sum. Ok (record { sum = sum })
-
--- a member that has to be there where the release has no problem
-abbrev pub unless_problem : {A : Type 0} → (Data → Reading A) → List ℕ → Option (List ℕ) → Data → Reading (Option A)
-unless_problem reading key (Some problem) d = optional_field_of reading key d
-unless_problem reading key None d = needed_field_of reading key d >>= λ x. Ok (Some x)
-
-abbrev pub release_member : List ShelfRelease → List ℕ → Data → Reading ShelfRelease
-release_member earlier key d = release_in key >>= λ release. object_of d >>= λ o.
-    optional_field_of text_of (codes "problem") o >>= λ problem.
-    unless_problem text_of (codes "manifest") problem o >>= λ manifest.
-    unless_problem archive_reading (codes "archive") problem o >>= λ archive.
-    optional_field_of checksum_reading (codes "checksum") o >>= λ checksum.
-    Ok (record { release = release; problem = problem; manifest = manifest; archive = archive; checksum = checksum })
-
-abbrev pub is_package : List ℕ → ShelfPackage → Bool
-is_package identity entry = pointwise nat_eq entry.identity identity
-
-abbrev pub not_doubled : List ShelfPackage → List ℕ → Reading (List ℕ)
-not_doubled earlier identity = if list_any (is_package identity) earlier then fault_here Doubled else Ok identity
-
-abbrev pub package_member : List ShelfPackage → List ℕ → Data → Reading ShelfPackage
-package_member earlier key d = identity_in key >>= λ read. not_doubled earlier read >>= λ identity.
-    members_of release_member d >>= λ releases.
-    Ok (record { identity = identity; releases = releases })
-
-abbrev pub packages_reading : Data → Reading Packages
-packages_reading d = members_of package_member d >>= λ packages. Ok (record { packages = packages })
-
--- a list of identities of any length
-abbrev pub url_member : List ShelfUrl → List ℕ → Data → Reading ShelfUrl
-url_member earlier key d = items_of identity_reading d >>= λ identities.
-    Ok (record { url = key; identities = identities })
-
-abbrev pub urls_reading : Data → Reading Urls
-urls_reading d = members_of url_member d >>= λ urls. Ok (record { urls = urls })
-
-abbrev pub urls_in : Option Urls → List ShelfUrl
-urls_in (Some urls) = urls.urls
-urls_in None = []
-
-abbrev pub file_reading : Data → Reading ShelfFile
-file_reading d = object_of d >>= λ o.
-    field_of packages_reading (codes "packages") o >>= λ packages.
-    optional_field_of urls_reading (codes "urls") o >>= λ urls.
-    Ok (record { packages = packages.packages; urls = urls_in urls })
-
--- what the bytes of a shelf file say, in its own order, or its first fault
-abbrev pub shelf_of : List ℕ → Reading ShelfFile
-shelf_of bytes = whole_of file_reading bytes
-
--- ---- the shelf that a file is
-
--- this package stands before each of these
-abbrev pub is_before : ShelfPackage → ShelfPackage → Bool
-is_before first second = is_lt (slice_cmp nat_cmp first.identity second.identity)
-
--- strictly ascending by identity
+-- packages in the order of their identities, each once
 abbrev pub AreAscending : List ShelfPackage → Type 0
-AreAscending [] = Unit {0}
-AreAscending (entry ∷ entries) = All (λ later. is_before entry later ≡ true) entries × AreAscending entries
+AreAscending packages = Ascend (map (λ entry. entry.identity) packages)
+
+-- where it has no problem, its manifest and its archive are there
+abbrev pub IsComplete : ShelfRelease → Type 0
+IsComplete release = IsNone release.problem → IsSome release.manifest × IsSome release.archive
+
+-- releases as a package of a shelf has them
+pub record AreReleases (releases : List ShelfRelease) : Type 0 where
+  pub ascending : Ascend (map (λ release. parts_text release.release) releases)
+  pub complete : All IsComplete releases
+
+-- URLs as a shelf has them
+abbrev pub AreUrls : List ShelfUrl → Type 0
+AreUrls urls = Ascend (map (λ entry. entry.url) urls)
+
+-- what each shelf is: packages ascend strictly by their identities, the releases of each by the bytes of their texts, and URLs
+-- by their bytes; each release without a problem has its manifest and its archive
+pub record IsShelf (shelf : ShelfFile) : Type 0 where
+  pub packages : AreAscending shelf.packages
+  pub releases : All (λ entry. AreReleases entry.releases) shelf.packages
+  pub urls : AreUrls shelf.urls
 
 -- the packages of the file in the order of their identities; the URLs as they stand in it, which is in byte order
 pub record IsShelfOf (file shelf : ShelfFile) : Type 0 where

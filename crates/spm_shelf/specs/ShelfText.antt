@@ -6,12 +6,12 @@ use Rattle.serde_json.specs.View.{items_of}
 use Rattle.serde_json.specs.Written.{compact_text}
 use Rattle.spm_digest.specs.Digest.{encode_lower}
 use Rattle.spm_version.specs.Release.{parts_text}
-use Rattle.spm_shelf.specs.Written.{object_with}
+use Rattle.spm_json.specs.Written.{object_with}
 use Rattle.spm_shelf.specs.declared.file.ShelfFile.{ShelfFile}
 use Rattle.spm_shelf.specs.declared.file.ShelfPackage.{ShelfPackage}
 use Rattle.spm_shelf.specs.declared.file.ShelfRelease.{ShelfRelease}
 use Rattle.spm_shelf.specs.declared.file.ShelfUrl.{ShelfUrl}
-use Rattle.spm_shelf.specs.declared.hexadecimal.Checksum.{Checksum}
+use Rattle.spm_shelf.specs.declared.checksum.Checksum.{Checksum}
 
 -- a member that may be absent, before those with greater keys
 abbrev pub with_member : List ℕ → Option Data → Members → Members

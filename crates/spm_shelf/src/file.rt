@@ -1,20 +1,33 @@
+ghost use Rattle.std.specs.Str.{bytes_eq};
 ghost use Rattle.std.specs.Prelude.{◌≡◌, ◌||◌, ℕ, List, IfOk};
 ghost use Rattle.serde_json.specs.View.{view};
-ghost use Rattle.spm_json.specs.Names.{has_name, same_name};
+ghost use Rattle.spm_json.specs.Names.{has_name};
 ghost use Rattle.spm_json.specs.Object.{data_of};
 ghost use Rattle.spm_json.specs.Reading.{Gives};
 ghost use Rattle.spm_json.specs.Shape.{text_of};
-ghost use Rattle.spm_shelf.specs.Shelf.{file_reading, packages_reading, release_member, shelf_of, unless_problem, url_member, urls_reading};
+ghost use Rattle.spm_shelf.specs.File.{
+  file_reading,
+  packages_reading,
+  release_member,
+  shelf_of,
+  unless_problem,
+  url_member,
+  urls_in,
+  urls_reading,
+};
 ghost use Rattle.spm_shelf.specs.NewPackage.{package_unless};
+ghost use Rattle.spm_shelf.specs.Shelf.{AreReleases};
 
-use crate::hexadecimal::{Archive, Checksum};
+use crate::archive::Archive;
+use crate::checksum::Checksum;
 use serde_json::Value;
 use spm_ident::Identity;
 use spm_json::{
     FromJson, FromMember, Names, Object, ReadFault, identity, items, members, read_whole, release,
 };
-use spm_version::{Items, Kind, Release, Text};
+use spm_version::{Duplicate, Items, Kind, NoMemory, Release, Text};
 use std::alloc::Global;
+use std::marker::Model;
 
 /// A release on a shelf. Where it has no problem, its manifest and its archive are there.
 #[derive(Debug, Drop)]
@@ -29,7 +42,42 @@ pub struct ShelfRelease {
     pub checksum: Option<Checksum>,
 }
 
-/// The manifest of a release, or its archive: it may be absent only where the release has a problem.
+impl ShelfRelease {
+    /// A copy of the release.
+    ///
+    /// # Errors
+    ///
+    /// `NoMemory` alone.
+    pub fn copy(&self, alloc: Global) -> Result<ShelfRelease, NoMemory>
+        ensures { IfOk result (λ copy. copy ≡ self.now) }
+    {
+        Ok(ShelfRelease {
+            release: self.release.copy(alloc)?,
+            problem: copy_some(alloc, &self.problem)?,
+            manifest: copy_some(alloc, &self.manifest)?,
+            archive: copy_some(alloc, &self.archive)?,
+            checksum: self.checksum,
+        })
+    }
+}
+
+impl Duplicate for ShelfRelease {
+    fn duplicate(&self, alloc: Global) -> Result<ShelfRelease, NoMemory> {
+        self.copy(alloc)
+    }
+}
+
+// A copy of what may be absent.
+fn copy_some<T: Duplicate + Drop>(alloc: Global, some: &Option<T>) -> Result<Option<T>, NoMemory>
+    ensures { IfOk result (λ copy. copy ≡ some.now) }
+{
+    match some {
+        Some(x) => Ok(Some(x.duplicate(alloc)?)),
+        None => Ok(None),
+    }
+}
+
+// The manifest of a release, or its archive: it may be absent only where the release has a problem.
 fn unless_problem_of<T: FromJson + Drop>(
     object: &Object,
     key: &str,
@@ -78,10 +126,44 @@ pub struct ShelfPackage {
     pub releases: Items<ShelfRelease>,
 }
 
-/// The object `packages`.
+impl ShelfPackage {
+    /// A copy of the package.
+    ///
+    /// # Errors
+    ///
+    /// `NoMemory` alone.
+    pub fn copy(&self, alloc: Global) -> Result<ShelfPackage, NoMemory>
+        ensures { IfOk result (λ copy. copy ≡ self.now) }
+    {
+        Ok(ShelfPackage {
+            identity: self.identity.copy(alloc)?,
+            releases: self.releases.copy(alloc)?,
+        })
+    }
+}
+
+impl Duplicate for ShelfPackage {
+    fn duplicate(&self, alloc: Global) -> Result<ShelfPackage, NoMemory> {
+        self.copy(alloc)
+    }
+}
+
+/// The object `packages`. Contracts see it as its packages, of which each has its releases as a shelf has them.
 #[derive(Drop)]
 pub struct Packages {
     pub packages: Items<ShelfPackage>,
+}
+
+impl Model for Packages {
+    ghost use Rattle.std.specs.Prelude.{All, List};
+    ghost use Rattle.spm_shelf.specs.Shelf.{AreReleases};
+    ghost use Rattle.spm_shelf.specs.declared.file.ShelfPackage.{ShelfPackage};
+
+    ghost Value = { List ShelfPackage };
+
+    ghost view = { λ read. read.packages };
+
+    ghost invariant = { λ read. All (λ entry. AreReleases entry.releases) read.packages };
 }
 
 impl FromJson for Packages {
@@ -114,7 +196,8 @@ fn new_package(
 ) -> Result<ShelfPackage, ReadFault>
     ensures entry { Gives result (package_unless (has_name met.old) key.now (view value.now)) }
     ensures met { IfOk result (λ entry. (other : List ℕ)
-        → has_name met.new other ≡ (same_name entry.identity other || has_name met.old other)) }
+        → has_name met.new other ≡ (bytes_eq entry.identity other || has_name met.old other)) }
+    ensures releases { IfOk result (λ entry. AreReleases entry.releases) }
 {
     let identity = identity(alloc, key)?;
     if !met.insert(alloc, identity.text())? {
@@ -129,6 +212,39 @@ fn new_package(
 pub struct ShelfUrl {
     pub url: Text,
     pub identities: Items<Identity>,
+}
+
+impl ShelfUrl {
+    /// A copy of the URL with its identities.
+    ///
+    /// # Errors
+    ///
+    /// `NoMemory` alone.
+    pub fn copy(&self, alloc: Global) -> Result<ShelfUrl, NoMemory>
+        ensures { IfOk result (λ copy. copy ≡ self.now) }
+    {
+        Ok(ShelfUrl {
+            url: self.url.copy(alloc)?,
+            identities: copy_identities(alloc, self.identities.as_slice())?,
+        })
+    }
+}
+
+impl Duplicate for ShelfUrl {
+    fn duplicate(&self, alloc: Global) -> Result<ShelfUrl, NoMemory> {
+        self.copy(alloc)
+    }
+}
+
+// A copy of these identities.
+fn copy_identities(alloc: Global, identities: &[Identity]) -> Result<Items<Identity>, NoMemory>
+    ensures { IfOk result (λ copy. copy ≡ identities.now) }
+{
+    let mut copy = Vec::with_capacity(alloc, identities.len())?;
+    for identity in identities {
+        copy.push(identity.copy(alloc)?)?;
+    }
+    Ok(Items::from_vec(copy))
 }
 
 impl FromMember for ShelfUrl {
@@ -146,10 +262,22 @@ impl FromMember for ShelfUrl {
     }
 }
 
-/// The object `urls`.
+/// The object `urls`. Contracts see it as its URLs, which ascend by their bytes.
 #[derive(Drop)]
 pub struct Urls {
     pub urls: Items<ShelfUrl>,
+}
+
+impl Model for Urls {
+    ghost use Rattle.std.specs.Prelude.{List};
+    ghost use Rattle.spm_shelf.specs.Shelf.{AreUrls};
+    ghost use Rattle.spm_shelf.specs.declared.file.ShelfUrl.{ShelfUrl};
+
+    ghost Value = { List ShelfUrl };
+
+    ghost view = { λ read. read.urls };
+
+    ghost invariant = { λ read. AreUrls read.urls };
 }
 
 impl FromJson for Urls {
@@ -168,19 +296,43 @@ pub struct ShelfFile {
     pub urls: Items<ShelfUrl>,
 }
 
-impl FromJson for ShelfFile {
+/// A file that was read, whose releases and URLs stand as a shelf has them. Contracts see it as the file.
+#[derive(Drop)]
+pub struct WholeFile {
+    pub packages: Packages,
+    pub urls: Urls,
+}
+
+impl Model for WholeFile {
+    ghost use Rattle.spm_shelf.specs.declared.file.ShelfFile.{ShelfFile};
+
+    ghost Value = { ShelfFile };
+
+    ghost view = { λ read. record { packages = read.packages; urls = read.urls } };
+}
+
+// The URLs of a file, or none.
+fn or_no_urls(alloc: Global, urls: Option<Urls>) -> Urls
+    ensures { result ≡ urls_in urls }
+{
+    match urls {
+        Some(urls) => urls,
+        None => Urls {
+            urls: Items::new(alloc),
+        },
+    }
+}
+
+impl FromJson for WholeFile {
     ghost reading = { file_reading };
 
-    fn from_json(alloc: Global, value: &Value) -> Result<ShelfFile, ReadFault> {
+    fn from_json(alloc: Global, value: &Value) -> Result<WholeFile, ReadFault> {
         let object = Object::of(alloc, value)?;
-        let packages: Packages = object.field("packages")?;
+        let packages = object.field("packages")?;
         let urls: Option<Urls> = object.optional_field("urls")?;
-        Ok(ShelfFile {
-            packages: packages.packages,
-            urls: match urls {
-                Some(urls) => urls.urls,
-                None => Items::new(alloc),
-            },
+        Ok(WholeFile {
+            packages,
+            urls: or_no_urls(alloc, urls),
         })
     }
 }
@@ -194,6 +346,24 @@ impl ShelfFile {
     pub fn read(alloc: Global, bytes: &[u8]) -> Result<ShelfFile, ReadFault>
         ensures { Gives result (shelf_of bytes.now) }
     {
-        read_whole(alloc, bytes)
+        let WholeFile { packages, urls } = read_whole(alloc, bytes)?;
+        Ok(ShelfFile {
+            packages: packages.packages,
+            urls: urls.urls,
+        })
+    }
+
+    /// A copy of the file.
+    ///
+    /// # Errors
+    ///
+    /// `NoMemory` alone.
+    pub fn copy(&self, alloc: Global) -> Result<ShelfFile, NoMemory>
+        ensures { IfOk result (λ copy. copy ≡ self.now) }
+    {
+        Ok(ShelfFile {
+            packages: self.packages.copy(alloc)?,
+            urls: self.urls.copy(alloc)?,
+        })
     }
 }

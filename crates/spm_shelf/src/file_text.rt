@@ -1,16 +1,16 @@
 // Writing a shelf's file.
 ghost use Rattle.std.specs.Prelude.{◌≡◌, IfOk, OnOk, codes, map, option_map};
-ghost use Rattle.serde_json.specs.Data.{array, member, no_members, object, string};
-ghost use Rattle.serde_json.specs.View.{items_of, view};
+ghost use Rattle.serde_json.specs.Data.{member, no_members, object, string};
+ghost use Rattle.serde_json.specs.View.{view};
 ghost use Rattle.spm_shelf.specs.ShelfText.{checksum_data, hex_data, package_pair, release_data, release_pair, url_pair};
-ghost use Rattle.spm_shelf.specs.Written.{object_with, put_present};
+ghost use Rattle.spm_json.specs.Written.{object_with, put_present};
 
+use crate::archive::Archive;
+use crate::checksum::Checksum;
 use crate::file::{ShelfPackage, ShelfRelease, ShelfUrl};
-use crate::hexadecimal::{Archive, Checksum};
-use crate::written::WrittenObject;
 use serde_json::{Value, json};
 use spm_digest::hex_of;
-use spm_ident::Identity;
+use spm_json::{WrittenObject, identities_value};
 use spm_version::{NoMemory, Text};
 use std::alloc::{AllocError, Global};
 
@@ -38,6 +38,7 @@ fn file_value(alloc: Global, packages: Value, urls: Value) -> Result<Value, Allo
     json!(in alloc; {"packages": packages, "urls": urls})
 }
 
+// The object `packages`.
 fn packages_value(alloc: Global, packages: &[ShelfPackage]) -> Result<Value, NoMemory>
     ensures { IfOk result (λ value. view value ≡ object_with (map package_pair packages.now)) }
 {
@@ -49,6 +50,7 @@ fn packages_value(alloc: Global, packages: &[ShelfPackage]) -> Result<Value, NoM
     Ok(object.into_value())
 }
 
+// The releases of a package.
 fn releases_value(alloc: Global, releases: &[ShelfRelease]) -> Result<Value, NoMemory>
     ensures { IfOk result (λ value. view value ≡ object_with (map release_pair releases.now)) }
 {
@@ -60,6 +62,7 @@ fn releases_value(alloc: Global, releases: &[ShelfRelease]) -> Result<Value, NoM
     Ok(object.into_value())
 }
 
+// A release.
 fn release_value(alloc: Global, release: &ShelfRelease) -> Result<Value, NoMemory>
     ensures { IfOk result (λ value. view value ≡ release_data release.now) }
 {
@@ -90,6 +93,7 @@ fn put_present(
     }
 }
 
+// An archive, if there is one, in hexadecimal.
 fn archive_value(alloc: Global, archive: &Option<Archive>) -> Result<Option<Value>, NoMemory>
     ensures { IfOk result (λ value. option_map view value ≡ option_map hex_data archive.now) }
 {
@@ -99,6 +103,7 @@ fn archive_value(alloc: Global, archive: &Option<Archive>) -> Result<Option<Valu
     }
 }
 
+// A sum, if there is one, in hexadecimal.
 fn checksum_value(alloc: Global, checksum: &Option<Checksum>) -> Result<Option<Value>, NoMemory>
     ensures { IfOk result (λ value. option_map view value ≡ option_map checksum_data checksum.now) }
 {
@@ -108,6 +113,7 @@ fn checksum_value(alloc: Global, checksum: &Option<Checksum>) -> Result<Option<V
     }
 }
 
+// A text, if there is one.
 fn text_value(alloc: Global, text: &Option<Text>) -> Result<Option<Value>, NoMemory>
     ensures { IfOk result (λ value. option_map view value ≡ option_map string text.now) }
 {
@@ -117,6 +123,7 @@ fn text_value(alloc: Global, text: &Option<Text>) -> Result<Option<Value>, NoMem
     }
 }
 
+// The object `urls`.
 fn urls_value(alloc: Global, urls: &[ShelfUrl]) -> Result<Value, NoMemory>
     ensures { IfOk result (λ value. view value ≡ object_with (map url_pair urls.now)) }
 {
@@ -126,14 +133,4 @@ fn urls_value(alloc: Global, urls: &[ShelfUrl]) -> Result<Value, NoMemory>
         object.put(alloc, url.url.as_str(), identities)?;
     }
     Ok(object.into_value())
-}
-
-fn identities_value(alloc: Global, identities: &[Identity]) -> Result<Value, NoMemory>
-    ensures { IfOk result (λ value. view value ≡ array (items_of (map string identities.now))) }
-{
-    let mut values = Vec::new(alloc);
-    for identity in identities {
-        values.push(Value::String(String::from_str(alloc, identity.text())?))?;
-    }
-    Ok(Value::Array(values))
 }

@@ -22,12 +22,15 @@ use Rattle.spm_tool.specs.Selection.{are_distinct, chosen_of, kept_pin, leaf_rel
 use Rattle.spm_version.specs.Release.{Parts}
 use Rattle.spm_version.specs.declared.requirement.Requirement.{Requirement}
 
+-- a package with its release
 abbrev Pin : Type 0
 Pin = List ℕ × Parts
 
+-- identities by their bytes
 abbrev order : List ℕ → List ℕ → Ordering
 order = slice_cmp nat_cmp
 
+-- a pin put in its place
 abbrev put : List Pin → Pin → List Pin
 put pins pin = insert_entry order pins pin.0 pin.1
 
@@ -39,6 +42,7 @@ ordering_is Greater = inr (inr refl)
 
 -- ---- a pin that is put among others
 
+-- a pin that was put is there
 put_there : (pins : List Pin) (pin : Pin) → IsAmong pin (put pins pin)
 put_there [] pin = inl refl
 put_there (first ∷ others) pin = elim (ordering_is (order pin.0 first.0)) [
@@ -47,6 +51,7 @@ put_there (first ∷ others) pin = elim (ordering_is (order pin.0 first.0)) [
   | inr (inr greater) ↦ rw greater (inr (put_there others pin))
 ]
 
+-- a pin of another package stays
 put_keeps : (pins : List Pin) (pin other : Pin) → IsAmong other pins → (other.0 ≡ pin.0 → ⊥) → IsAmong other (put pins pin)
 put_keeps [] pin other among differs = absurd among
 put_keeps (first ∷ others) pin other among differs = elim (ordering_is (order pin.0 first.0)) [
@@ -61,6 +66,7 @@ put_keeps (first ∷ others) pin other among differs = elim (ordering_is (order 
   ])
 ]
 
+-- nothing else comes in
 put_only : (pins : List Pin) (pin other : Pin) → IsAmong other (put pins pin) → (other ≡ pin) ⊎ IsAmong other pins
 put_only [] pin other (inl same) = inl same
 put_only [] pin other (inr later) = absurd later
@@ -76,6 +82,7 @@ put_only (first ∷ others) pin other among = elim (ordering_is (order pin.0 fir
   ]
 ]
 
+-- the order of identities is total
 total : IsTotalOrder order
 total = nat_list_cmp_total
 
@@ -83,6 +90,7 @@ total = nat_list_cmp_total
 turned : (first second : List ℕ) → order first second ≡ Greater → order second first ≡ Less
 turned first second greater = total.antisymm second first ∙ ap ordering_reverse greater
 
+-- pins stay in order
 put_ascending : (pins : List Pin) (pin : Pin) → AreAscending pins → AreAscending (put pins pin)
 put_ascending [] pin up = (λ other among. absurd among, tt)
 put_ascending (first ∷ others) pin up = elim (ordering_is (order pin.0 first.0)) [
@@ -120,6 +128,7 @@ pin_target shelf kept requirement (Local path) pin is = absurd (none-some pin is
 abbrev AreApart : List Pin → List Need → Type 0
 AreApart pins needs = (pin : Pin) → IsAmong pin pins → (need : Need) → IsAmong need needs → need.target ≡ Registry pin.0 → ⊥
 
+-- a test that one need passes is passed by some need
 any_among : (p : Need → Bool) (needs : List Need) (need : Need) → IsAmong need needs → p need ≡ true → list_any p needs ≡ true
 any_among p [] need among passes = absurd among
 any_among p (first ∷ others) need (inl same) passes = rw (← same, passes) refl
@@ -132,9 +141,11 @@ pub record Continues (shelf : List ShelfPackage) (kept before : List Pin) (needs
   pub each : (need : Need) → IsAmong need needs → (pin : Pin) × IsPinOf shelf kept need pin × IsAmong pin pins
   pub only : (pin : Pin) → IsAmong pin pins → IsAmong pin before ⊎ ((need : Need) × IsAmong need needs × IsPinOf shelf kept need pin)
 
+-- two dependencies on one package have one target
 same_registry : (first second : Target) (identity : List ℕ) → first ≡ Registry identity → second ≡ Registry identity → same_target first second ≡ true
 same_registry first second identity is also = rw (is, also) ((bytes_eq-Decides identity identity).1 refl)
 
+-- needs on other packages than the pins so far are so with one more pin
 apart_after : (shelf : List ShelfPackage) (kept before : List Pin) (need : Need) (needs : List Need) (pin : Pin)
     → AreApart before (need ∷ needs) → are_distinct (need ∷ needs) ≡ true → need.target ≡ Registry pin.0 → AreApart (put before pin) needs
 apart_after shelf kept before need needs pin apart distinct is = λ other among next later target.
@@ -146,6 +157,7 @@ apart_after shelf kept before need needs pin apart distinct is = λ other among 
       | inr early ↦ apart other early next (inr later) target
     ]
 
+-- pins with those of the needs that are left are in order, each chosen
 continues : (shelf : List ShelfPackage) (kept before : List Pin) (needs : List Need) (pins : List Pin)
     → AreAscending before → AreApart before needs → are_distinct needs ≡ true → pins_after shelf kept before needs ≡ Some pins
     → Continues shelf kept before needs pins
@@ -181,6 +193,7 @@ continues shelf kept before (need ∷ needs) pins up apart distinct made =
       ];
     })
 
+-- so the pins of all needs are those that are chosen for them, in order
 pub pins_of-ArePinsOf : (shelf : List ShelfPackage) (kept : List Pin) (needs : List Need) (pins : List Pin)
     → are_distinct needs ≡ true → pins_of shelf kept needs ≡ Some pins → ArePinsOf shelf kept needs pins
 pins_of-ArePinsOf shelf kept needs pins distinct made =

@@ -1,4 +1,3 @@
 pub mod Chosen
 pub mod Newest
 pub mod Refusals
-pub mod Tell

@@ -12,6 +12,7 @@ use Rattle.spm_version.specs.ReleaseLaws.{release_cmp, release_total}
 use Rattle.spm_version.specs.Requirement.{contains}
 use Rattle.spm_version.specs.declared.requirement.Requirement.{Requirement}
 
+-- not above, two steps in a row
 not_above_by : {K : Type 0} {R : K → K → Ordering} → IsTotalOrder R → (x y z : K) (a b : Ordering) → R x y ≡ a → R y z ≡ b → is_gt a ≡ false → is_gt b ≡ false → is_gt (R x z) ≡ false
 not_above_by o x y z Less Less p q g h = rw (o.trans x y z p q) refl
 not_above_by {R = R} o x y z Less Equal p q g h =
@@ -33,6 +34,7 @@ above_back_by o x y Less p g = cc
 above_back_by o x y Equal p g = cc
 above_back_by o x y Greater p g = rw (o.antisymm y x, p) refl
 
+-- what is above something isn't below it
 above_back : (x y : ShelfRelease) → is_gt (release_cmp x.release y.release) ≡ true → is_gt (release_cmp y.release x.release) ≡ false
 above_back x y = above_back_by release_total x.release y.release _ refl
 
@@ -40,9 +42,11 @@ above_back x y = above_back_by release_total x.release y.release _ refl
 some_none : {A : Type 0} (x : A) → Some x ≡ None → ⊥
 some_none x e = cc
 
+-- what stands in two equal options is equal
 inside : {A : Type 0} (x y : A) → Some x ≡ Some y → x ≡ y
 inside x y e = cc
 
+-- a test doesn't both hold and not hold
 no_both : (b : Bool) → b ≡ true → b ≡ false → ⊥
 no_both b is_true is_false = cc
 
@@ -123,6 +127,7 @@ keeps_best requirement best first others (Some found) below h = (
   ],
 )
 
+-- the fold over the entries comes to the newest, or what it began with
 comes_to : (requirement : Requirement) (best : Option ShelfRelease) (entries : List ShelfRelease)
     → IsAfter requirement best entries (newest_after best requirement entries)
 comes_to requirement None [] = (refl, λ entry among. absurd among)
@@ -139,6 +144,7 @@ comes_to requirement (Some best) (first ∷ others) = elim (cases_Bool (contains
   | inr out ↦ rw out (passes_over requirement (Some best) first others _ out (comes_to requirement (Some best) others))
 ]
 
+-- begun with nothing it comes to the newest of the entries
 from_nothing : (requirement : Requirement) (entries : List ShelfRelease) (found : Option ShelfRelease)
     → IsAfter requirement None entries found → IsNewest requirement entries found
 from_nothing requirement entries None h = h.1
@@ -147,5 +153,6 @@ from_nothing requirement entries (Some found) h = elim h.0 [
   | inr later ↦ (later.0, later.1, h.2)
 ]
 
+-- so the newest release is one that is contained, and none is above it
 pub newest_of-IsNewest : (requirement : Requirement) (entries : List ShelfRelease) → IsNewest requirement entries (newest_of requirement entries)
 newest_of-IsNewest requirement entries = from_nothing requirement entries _ (comes_to requirement None entries)

@@ -6,23 +6,19 @@ use Rattle.spm_manifest.specs.Profile.{manifest_of}
 use Rattle.spm_outside.specs.Names.{FileMap}
 use Rattle.spm_manifest.specs.declared.dump.Contents.{Contents}
 use Rattle.spm_tool.specs.Ending.{manifest_in, ready_manifest, with_bytes}
-use Rattle.spm_tool.specs.Phase.{IsRefusal, Refuses}
+use Rattle.spm_tool.specs.Steps.{IsRefusal, Refuses}
 use Rattle.spm_tool.specs.Words.{manifest_name}
 use Rattle.spm_tool.specs.declared.ending.RootCall.{RootCall}
 use Rattle.spm_tool.specs.declared.ending.RootCall.TheVariants.{GetManifest}
 use Rattle.spm_tool.specs.declared.ending.RootEnding.{RootEnding}
-use Rattle.spm_tool.specs.declared.ending.RootEnding.TheVariants.{Missing, Unreadable, TooNew, NotBuilt, Fault, LockUnreadable, Refuted, Resolved, Memory}
+use Rattle.spm_tool.specs.declared.ending.RootEnding.TheVariants.{Fault, Memory}
 
-pub refused_with_bytes : (call : RootCall) (ending : RootEnding) (bytes : List ℕ) (step : Result Contents RootEnding) → Refuses ending step → IsRefusal call ending (with_bytes bytes step)
-refused_with_bytes call Missing bytes step h = ap (with_bytes bytes) h
-refused_with_bytes call (Unreadable place kind) bytes step h = ap (with_bytes bytes) h
-refused_with_bytes call (TooNew tools) bytes step h = ap (with_bytes bytes) h
-refused_with_bytes call NotBuilt bytes step h = ap (with_bytes bytes) h
-refused_with_bytes call (Fault failed) bytes step h = absurd h
-refused_with_bytes call (LockUnreadable place kind) bytes step h = ap (with_bytes bytes) h
-refused_with_bytes call (Refuted identity requirement) bytes step h = ap (with_bytes bytes) h
-refused_with_bytes call (Resolved text count) bytes step h = absurd h
+-- a step that is refused is refused with the bytes beside it
+pub refused_with_bytes : (call : RootCall) (ending : RootEnding) (bytes : List ℕ) (step : Result Contents RootEnding)
+    → Refuses ending step → IsRefusal call ending (with_bytes bytes step)
 refused_with_bytes call Memory bytes step h = tt
+refused_with_bytes call (Fault failed) bytes step h = absurd h
+refused_with_bytes call ending bytes step h = ap (with_bytes bytes) h
 
 -- what was got is the manifest that is refused
 pub told_refusal : (told : Option FileMap) (name root slice bytes : List ℕ) (ending : RootEnding) → name ≡ manifest_name root → slice ≡ bytes

@@ -1,6 +1,6 @@
 -- The command `check --proof FILE`: whether the derivation in a file holds by the file's own facts. The file's bytes decide how it
 -- ends; the ending decides the one line and the status. Want of memory is free, and a fault of the desk is tied to its count.
-use Rattle.std.specs.Prelude.{◌≡◌, ℕ, ◌&&◌, List, [], ◌∷◌, ◌++◌, length, codes, Option, Some, None, IfSome, Result, Ok, Err, if◌then◌else◌}
+use Rattle.std.specs.Prelude.{◌≡◌, ℕ, List, [], ◌++◌, length, codes, Option, Some, None, IfSome, Result, Ok, Err}
 use Rattle.std.specs.FinMap as map
 use Rattle.std.specs.Fmt.{decimal}
 use Rattle.pub_proof.specs.Checked.{LineFault, checked_of}
@@ -10,28 +10,16 @@ use Rattle.pub_proof.specs.Kinds as proof
 use Rattle.pub_proof.specs.declared.derivation.Derivation.{Derivation}
 use Rattle.pub_term.specs.declared.term.Term.{Term}
 use Rattle.spm_json.specs.Reading.{Reading}
+use Rattle.spm_outside.specs.Desk.{DeskState}
+use Rattle.spm_outside.specs.Sink.{SinkState}
 use Rattle.spm_version.specs.Kind.{kind_text}
 use Rattle.spm_version.specs.declared.kind.Kind.{Kind}
-use Rattle.spm_tool.specs.Course.{DeskState, FaultLeft}
+use Rattle.spm_tool.specs.Left.{FaultLeft}
 use Rattle.spm_tool.specs.Report.{line_end}
-use Rattle.spm_tool.specs.Resolves.{RefusesWords, SinkState, Tells}
-use Rattle.spm_tool.specs.Words.{is_value, same_text}
+use Rattle.spm_tool.specs.Resolves.{RefusesWords, Tells}
+use Rattle.spm_tool.specs.Words as words
 use Rattle.spm_tool.specs.declared.check.CheckEnding.{CheckEnding}
 use Rattle.spm_tool.specs.declared.check.CheckEnding.TheVariants.{Missing, Unreadable, Fault, Holds, Fails, Memory}
-
--- ---- the words
-
-abbrev pub file_in : List ℕ → List ℕ → List ℕ → Option (List ℕ)
-file_in command option file =
-    if same_text command (codes "check") && same_text option (codes "--proof") && is_value file then Some file else None
-
--- the file that is checked, if the words are of that form
-abbrev pub checked_file : List (List ℕ) → Option (List ℕ)
-checked_file [] = None
-checked_file (command ∷ []) = None
-checked_file (command ∷ option ∷ []) = None
-checked_file (command ∷ option ∷ file ∷ []) = file_in command option file
-checked_file (command ∷ option ∷ file ∷ other ∷ others) = None
 
 -- ---- the ending
 
@@ -40,7 +28,7 @@ verdict_on lines (Ok last) = Holds lines
 verdict_on lines (Err fault) = Fails fault.line fault.kind
 
 abbrev pub verdict : Derivation → CheckEnding
-verdict derivation = verdict_on (length derivation.lines) (checked_of derivation.sizes (own_facts derivation.lines) derivation.lines)
+verdict derivation = verdict_on (length derivation.lines) (checked_of derivation.nodes derivation.sizes (own_facts derivation.lines) derivation.lines)
 
 abbrev pub check_read : Reading Derivation → CheckEnding
 check_read (Ok derivation) = verdict derivation
@@ -51,32 +39,21 @@ abbrev pub check_in : Option (List ℕ) → CheckEnding
 check_in None = Missing
 check_in (Some bytes) = check_read (derivation_in bytes)
 
--- an ending is that of the file's bytes, a fault of the desk, or want of memory
+-- an ending is want of memory, a fault of the desk, or else that of the file's bytes
 abbrev pub IsCheck : CheckEnding → CheckEnding → Type 0
-IsCheck ending Missing = ending ≡ Missing
-IsCheck ending (Unreadable place kind) = ending ≡ Unreadable place kind
-IsCheck ending Fault = Unit {0}
-IsCheck ending (Holds lines) = ending ≡ Holds lines
-IsCheck ending (Fails line kind) = ending ≡ Fails line kind
 IsCheck ending Memory = Unit {0}
+IsCheck ending Fault = Unit {0}
+IsCheck ending found = found ≡ ending
 
 -- the same of a step without a call of the desk
 abbrev pub IsVerdict : CheckEnding → CheckEnding → Type 0
-IsVerdict ending Missing = ending ≡ Missing
-IsVerdict ending (Unreadable place kind) = ending ≡ Unreadable place kind
-IsVerdict ending Fault = ⊥
-IsVerdict ending (Holds lines) = ending ≡ Holds lines
-IsVerdict ending (Fails line kind) = ending ≡ Fails line kind
 IsVerdict ending Memory = Unit {0}
+IsVerdict ending found = found ≡ ending
 
--- the file on which the desk failed
+-- the file on which the desk failed, if it did
 abbrev pub faulty_check : List ℕ → CheckEnding → Option (List ℕ)
-faulty_check file Missing = None
-faulty_check file (Unreadable place kind) = None
 faulty_check file Fault = Some file
-faulty_check file (Holds lines) = None
-faulty_check file (Fails line kind) = None
-faulty_check file Memory = None
+faulty_check file ending = None
 
 -- ---- the line and the status
 
@@ -108,9 +85,10 @@ pub record ChecksFile (file : List ℕ) (before after : DeskState) (sink_before 
   pub files : after.files ≡ before.files
   pub report : Tells (check_report file ending) (check_status ending) sink_before sink_after status
 
-abbrev pub StillBy : Option (List ℕ) → DeskState → DeskState → SinkState → SinkState → ℕ → Type 0
-StillBy (Some file) before after sink_before sink_after status = ChecksFile file before after sink_before sink_after status
+abbrev pub StillBy : Option words.Command → DeskState → DeskState → SinkState → SinkState → ℕ → Type 0
+StillBy (Some (words.check file)) before after sink_before sink_after status = ChecksFile file before after sink_before sink_after status
+StillBy (Some (words.resolve order)) before after sink_before sink_after status = RefusesWords before after sink_before sink_after status
 StillBy None before after sink_before sink_after status = RefusesWords before after sink_before sink_after status
 
 abbrev pub Still : List (List ℕ) → DeskState → DeskState → SinkState → SinkState → ℕ → Type 0
-Still words before after sink_before sink_after status = StillBy (checked_file words) before after sink_before sink_after status
+Still given before after sink_before sink_after status = StillBy (words.command_of given) before after sink_before sink_after status

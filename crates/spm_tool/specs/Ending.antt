@@ -83,24 +83,26 @@ abbrev pub after_manifest : ShelfFile → Option (List ℕ) → Result (Contents
 after_manifest shelf lock (Ok manifest) = after_kept shelf manifest (kept_in lock)
 after_manifest shelf lock (Err ending) = Err ending
 
--- The refusals in their order: the manifest, the lock file, the selection.
-abbrev pub root_ending : ShelfFile → List ℕ → FileMap → Result (List ℕ × ℕ) RootEnding
-root_ending shelf root files =
+-- The refusals in their order: the manifest, the lock file, the selection; else what is put.
+abbrev pub root_lock : ShelfFile → List ℕ → FileMap → Result (List ℕ × ℕ) RootEnding
+root_lock shelf root files =
     after_manifest shelf (map.get files (lock_name root)) (manifest_in (map.get files (manifest_name root)))
 
--- A root's ending is that of its files' bytes, want of memory, or a fault at a call that the run comes to.
+abbrev pub resolved_or_not : Result (List ℕ × ℕ) RootEnding → RootEnding
+resolved_or_not (Ok lock) = Resolved lock.0 lock.1
+resolved_or_not (Err ending) = ending
+
+-- the outcome of the files' bytes
+abbrev pub root_outcome : ShelfFile → List ℕ → FileMap → RootEnding
+root_outcome shelf root files = resolved_or_not (root_lock shelf root files)
+
+-- a root's ending: want of memory, a fault at a call that the run comes to, or else the outcome of its files' bytes
 abbrev pub IsRootEnding : ShelfFile → List ℕ → FileMap → RootEnding → Type 0
-IsRootEnding shelf root files Missing = root_ending shelf root files ≡ Err Missing
-IsRootEnding shelf root files (Unreadable place kind) = root_ending shelf root files ≡ Err (Unreadable place kind)
-IsRootEnding shelf root files (TooNew tools) = root_ending shelf root files ≡ Err (TooNew tools)
-IsRootEnding shelf root files NotBuilt = root_ending shelf root files ≡ Err NotBuilt
+IsRootEnding shelf root files Memory = Unit {0}
 IsRootEnding shelf root files (Fault GetManifest) = Unit {0}
 IsRootEnding shelf root files (Fault GetLock) = IsOk (manifest_in (map.get files (manifest_name root)))
-IsRootEnding shelf root files (Fault PutLock) = IsOk (root_ending shelf root files)
-IsRootEnding shelf root files (LockUnreadable place kind) = root_ending shelf root files ≡ Err (LockUnreadable place kind)
-IsRootEnding shelf root files (Refuted identity requirement) = root_ending shelf root files ≡ Err (Refuted identity requirement)
-IsRootEnding shelf root files (Resolved text count) = root_ending shelf root files ≡ Ok (text, count)
-IsRootEnding shelf root files Memory = Unit {0}
+IsRootEnding shelf root files (Fault PutLock) = IsOk (root_lock shelf root files)
+IsRootEnding shelf root files ending = ending ≡ root_outcome shelf root files
 
 -- ---- the run
 
@@ -113,14 +115,13 @@ abbrev pub shelf_in : Option (List ℕ) → Result ShelfFile ShelfEnding
 shelf_in None = Err shelf.Missing
 shelf_in (Some bytes) = built_or_not (plain_shelf_of bytes)
 
--- a run without a shelf
+-- a run without a shelf: want of memory, a fault at the shelf's file, or else the refusal
 abbrev pub IsShelfEnding : Option (List ℕ) → ShelfEnding → Type 0
-IsShelfEnding content shelf.Missing = shelf_in content ≡ Err shelf.Missing
-IsShelfEnding content shelf.NotBuilt = shelf_in content ≡ Err shelf.NotBuilt
-IsShelfEnding content shelf.Fault = Unit {0}
 IsShelfEnding content shelf.Memory = Unit {0}
+IsShelfEnding content shelf.Fault = Unit {0}
+IsShelfEnding content ending = shelf_in content ≡ Err ending
 
--- The ending of a run with accepted words.
+-- the ending of a run with accepted words
 abbrev pub IsEnding : Order → FileMap → Ending → Type 0
 IsEnding order files (run.Shelf ending) = IsShelfEnding (map.get files order.shelf) ending
 IsEnding order files (run.Root ending) =

@@ -5,8 +5,8 @@ pub mod Views
 pub mod Newest
 pub mod Chosen
 pub mod Ending
-pub mod Course
-pub mod Phase
+pub mod Left
+pub mod Steps
 pub mod Report
 pub mod Resolves
 pub mod Check

@@ -1,14 +1,14 @@
 -- The lines that a run writes, and its exit status: functions of the ending.
 use Rattle.std.specs.Prelude.{ℕ, ◌+◌, ◌*◌, ◌==◌, List, [], ◌∷◌, ◌++◌, codes, Result, Ok, Err, ⊤, if◌then◌else◌}
 use Rattle.std.specs.Fmt.{decimal}
-use Rattle.spm_outside.specs.declared.sink.SinkFault.{SinkFault}
-use Rattle.spm_outside.specs.declared.sink.SinkFault.TheVariants as sink
+use Rattle.spm_outside.specs.declared.fault.CallFault.{CallFault}
+use Rattle.spm_outside.specs.declared.fault.CallFault.TheVariants as sink
 use Rattle.spm_version.specs.Kind.{kind_text}
 use Rattle.spm_version.specs.Release.{parts_text}
 use Rattle.spm_version.specs.ToolsVersion.{tools_text}
 use Rattle.spm_version.specs.declared.requirement.Requirement.{Requirement}
 use Rattle.spm_version.specs.declared.requirement.Requirement.TheVariants.{Exact, Range, Branch, Revision, Path}
-use Rattle.spm_tool.specs.Course.{file_of_call}
+use Rattle.spm_tool.specs.Left.{file_of_call}
 use Rattle.spm_tool.specs.Selection.{running}
 use Rattle.spm_tool.specs.Words.{Order}
 use Rattle.spm_tool.specs.declared.ending.Ending.{Ending}
@@ -47,26 +47,25 @@ root_text root (Refuted identity requirement) = codes "no selection in 1 turns\n
 root_text root (Resolved text count) = codes "resolved " ++ (decimal count ++ (codes " in " ++ (decimal (turns_of count) ++ codes " turns")))
 root_text root Memory = codes "no memory"
 
-abbrev pub refuted_text : List ℕ
-refuted_text = codes "roots 1: resolved 0, refuted 1, refused 0, faulty 0, differing 0, cancelled 0, memory 0"
+-- a refusal is 3
+abbrev pub root_status : RootEnding → ℕ
+root_status (Resolved text count) = 0
+root_status (Refuted identity requirement) = 1
+root_status (Fault call) = 4
+root_status Memory = 6
+root_status ending = 3
 
-abbrev pub refused_text : List ℕ
-refused_text = codes "roots 1: resolved 0, refuted 0, refused 1, faulty 0, differing 0, cancelled 0, memory 0"
-
--- the last line: how many roots ended in which way
-abbrev pub summary_text : RootEnding → List ℕ
-summary_text Missing = refused_text
-summary_text (Unreadable place kind) = refused_text
-summary_text (TooNew tools) = refused_text
-summary_text NotBuilt = refused_text
-summary_text (LockUnreadable place kind) = refused_text
-summary_text (Refuted identity requirement) = refuted_text
-summary_text (Fault call) = codes "roots 1: resolved 0, refuted 0, refused 0, faulty 1, differing 0, cancelled 0, memory 0"
-summary_text (Resolved text count) = codes "roots 1: resolved 1, refuted 0, refused 0, faulty 0, differing 0, cancelled 0, memory 0"
-summary_text Memory = codes "roots 1: resolved 0, refuted 0, refused 0, faulty 0, differing 0, cancelled 0, memory 1"
+-- the last line: how many roots ended in which way, by the root's status
+abbrev pub summary_text : ℕ → List ℕ
+summary_text status =
+    if status == 0 then codes "roots 1: resolved 1, refuted 0, refused 0, faulty 0, differing 0, cancelled 0, memory 0"
+    else if status == 1 then codes "roots 1: resolved 0, refuted 1, refused 0, faulty 0, differing 0, cancelled 0, memory 0"
+    else if status == 4 then codes "roots 1: resolved 0, refuted 0, refused 0, faulty 1, differing 0, cancelled 0, memory 0"
+    else if status == 6 then codes "roots 1: resolved 0, refuted 0, refused 0, faulty 0, differing 0, cancelled 0, memory 1"
+    else codes "roots 1: resolved 0, refuted 0, refused 1, faulty 0, differing 0, cancelled 0, memory 0"
 
 abbrev pub root_report : List ℕ → RootEnding → List ℕ
-root_report root ending = root ++ (codes ": " ++ (root_text root ending ++ (line_end ++ (summary_text ending ++ line_end))))
+root_report root ending = root ++ (codes ": " ++ (root_text root ending ++ (line_end ++ (summary_text (root_status ending) ++ line_end))))
 
 abbrev pub words_report : List ℕ
 words_report = codes "words: not built yet" ++ line_end
@@ -82,30 +81,17 @@ abbrev pub report_of : Order → Ending → List ℕ
 report_of order (run.Shelf ending) = shelf_report order.shelf ending
 report_of order (run.Root ending) = root_report order.root ending
 
-abbrev pub root_status : RootEnding → ℕ
-root_status Missing = 3
-root_status (Unreadable place kind) = 3
-root_status (TooNew tools) = 3
-root_status NotBuilt = 3
-root_status (LockUnreadable place kind) = 3
-root_status (Refuted identity requirement) = 1
-root_status (Fault call) = 4
-root_status (Resolved text count) = 0
-root_status Memory = 6
-
 abbrev pub shelf_status : ShelfEnding → ℕ
-shelf_status shelf.Missing = 3
-shelf_status shelf.NotBuilt = 3
 shelf_status shelf.Fault = 4
 shelf_status shelf.Memory = 6
+shelf_status ending = 3
 
 abbrev pub status_of : Ending → ℕ
 status_of (run.Shelf ending) = shelf_status ending
 status_of (run.Root ending) = root_status ending
 
--- The exit status, with what the sink answered: refused words are 2 in any case; else the first of 6, 4, 3, 1, 0
--- that the ending or the sink gives.
-abbrev pub status_after : ℕ → Result ⊤ SinkFault → ℕ
+-- the exit status, with what the sink answered: the first of 6, 4, 3, 1, 0 that the ending or the sink gives
+abbrev pub status_after : ℕ → Result ⊤ CallFault → ℕ
 status_after status (Ok nothing) = status
-status_after status (Err sink.Failed) = if status == 2 then 2 else if status == 6 then 6 else 4
-status_after status (Err sink.Memory) = if status == 2 then 2 else 6
+status_after status (Err sink.Failed) = if status == 6 then 6 else 4
+status_after status (Err sink.Memory) = 6

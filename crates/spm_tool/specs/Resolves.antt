@@ -1,25 +1,31 @@
 -- The contract of `resolve`: the words and the bytes of the files decide the ending, and the ending decides the report,
 -- the status and the files after. Faults are tied to the counts of the desk and the sink; want of memory is free.
 use Rattle.std.specs.Prelude.{◌≡◌, ℕ, List, Option, Some, None, IfSome, Result, ⊤}
-use Rattle.spm_outside.specs.Sink.{PutsAll, SinkFaultsAfter}
-use Rattle.spm_outside.specs.declared.sink.SinkFault.{SinkFault}
-use Rattle.spm_tool.specs.Course.{DeskState, FaultLeft, FilesLeft, faulty_file}
+use Rattle.spm_outside.specs.Desk.{DeskState}
+use Rattle.spm_outside.specs.Faults.{FaultsAfter}
+use Rattle.spm_outside.specs.Sink.{PutsAll, SinkState}
+use Rattle.spm_outside.specs.declared.fault.CallFault.{CallFault}
 use Rattle.spm_tool.specs.Ending.{IsEnding}
+use Rattle.spm_tool.specs.Left.{FaultLeft, FilesLeft, faulty_file}
 use Rattle.spm_tool.specs.Report.{report_of, status_after, status_of, words_report}
-use Rattle.spm_tool.specs.Words.{Order, order_of}
+use Rattle.spm_tool.specs.Words.{Command, Order, check, command_of, resolve}
 use Rattle.spm_tool.specs.declared.ending.Ending.{Ending}
 
--- what a sink tells: the bytes written, and the count of faults
-pub record SinkState : Type 0 where
-  pub written : Option (List ℕ)
-  pub faults : ℕ
+-- the text is written, or a part of it from the front on where the sink failed or memory ran out
+pub record Writes (text : List ℕ) (before after : SinkState) (answer : Result ⊤ CallFault) : Type 0 where
+  pub written : PutsAll answer text before.written after.written
+  pub faults : FaultsAfter answer before.faults after.faults
 
--- a report is written, or a prefix of it where the sink failed or memory ran out, and the status tells which
+-- the sink's answer to a report, if there was memory to make one
+abbrev pub TellsBy : Option (Result ⊤ CallFault) → List ℕ → ℕ → SinkState → SinkState → ℕ → Type 0
+TellsBy None report ending_status before after status = (after ≡ before) × (status ≡ 6)
+TellsBy (Some answer) report ending_status before after status =
+    Writes report before after answer × (status ≡ status_after ending_status answer)
+
+-- a report is written, and the status tells how that went
 pub record Tells (report : List ℕ) (ending_status : ℕ) (before after : SinkState) (status : ℕ) : Type 0 where
-  pub answer : Result ⊤ SinkFault
-  pub written : PutsAll answer report before.written after.written
-  pub faults : SinkFaultsAfter answer before.faults after.faults
-  pub status_is : status ≡ status_after ending_status answer
+  pub answer : Option (Result ⊤ CallFault)
+  pub told : TellsBy answer report ending_status before after status
 
 -- a run with accepted words
 pub record Runs (order : Order) (before after : DeskState) (sink_before sink_after : SinkState) (status : ℕ) : Type 0 where
@@ -29,14 +35,16 @@ pub record Runs (order : Order) (before after : DeskState) (sink_before sink_aft
   pub files : FilesLeft order ending before.files after.files
   pub report : Tells (report_of order ending) (status_of ending) sink_before sink_after status
 
--- words that aren't accepted touch no file
+-- words that aren't accepted touch no file; their status is 2 whatever the sink does
 pub record RefusesWords (before after : DeskState) (sink_before sink_after : SinkState) (status : ℕ) : Type 0 where
   pub desk : after ≡ before
-  pub report : Tells words_report 2 sink_before sink_after status
+  pub report : (answer : Result ⊤ CallFault) × Writes words_report sink_before sink_after answer
+  pub is_two : status ≡ 2
 
-abbrev pub ResolvesBy : Option Order → DeskState → DeskState → SinkState → SinkState → ℕ → Type 0
-ResolvesBy (Some order) before after sink_before sink_after status = Runs order before after sink_before sink_after status
+abbrev pub ResolvesBy : Option Command → DeskState → DeskState → SinkState → SinkState → ℕ → Type 0
+ResolvesBy (Some (resolve order)) before after sink_before sink_after status = Runs order before after sink_before sink_after status
+ResolvesBy (Some (check file)) before after sink_before sink_after status = RefusesWords before after sink_before sink_after status
 ResolvesBy None before after sink_before sink_after status = RefusesWords before after sink_before sink_after status
 
 abbrev pub Resolves : List (List ℕ) → DeskState → DeskState → SinkState → SinkState → ℕ → Type 0
-Resolves words before after sink_before sink_after status = ResolvesBy (order_of words) before after sink_before sink_after status
+Resolves words before after sink_before sink_after status = ResolvesBy (command_of words) before after sink_before sink_after status

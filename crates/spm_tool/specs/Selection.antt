@@ -1,13 +1,13 @@
 -- The selection of this stage: of each direct dependency the pinned release where it is allowed, else the newest one
 -- that its requirement contains, which has no dependencies of its own. It is a function of the files' bytes.
-use Rattle.std.specs.Prelude.{ℕ, ◌==◌, ◌&&◌, List, [], ◌∷◌, length, Bool, true, false, not, codes, is_some, nat_eq, nat_le, Option, Some, None, option_and_then, option_map, Ok, Err, if◌then◌else◌}
+use Rattle.std.specs.Str.{bytes_eq}
+use Rattle.std.specs.Prelude.{ℕ, ◌==◌, ◌&&◌, List, [], ◌∷◌, length, Bool, true, false, not, codes, is_some, nat_le, Option, Some, None, option_and_then, option_map, Ok, Err, if◌then◌else◌}
 use Rattle.std.specs.BTreeMap.{insert_entry}
-use Rattle.std.specs.Cmp.Lexicographic.{pointwise, slice_cmp}
-use Rattle.std.specs.List.{ends_with, list_all, list_any}
+use Rattle.std.specs.Cmp.Lexicographic.{slice_cmp}
+use Rattle.std.specs.List.{list_all, list_any}
 use Rattle.std.specs.Ordering.{is_gt, is_le, nat_cmp, ordering_then}
 use Rattle.std.specs.declared.cmp.Ordering.{Ordering}
 use Rattle.spm_json.specs.Reading.{Reading}
-use Rattle.spm_json.specs.Names.{same_name}
 use Rattle.spm_manifest.specs.Profile.{manifest_of}
 use Rattle.spm_manifest.specs.declared.dump.Contents.{Contents}
 use Rattle.spm_manifest.specs.declared.need.Ask.{Ask}
@@ -16,11 +16,11 @@ use Rattle.spm_manifest.specs.declared.need.Guard.TheVariants.{Always, Any}
 use Rattle.spm_manifest.specs.declared.need.Need.{Need}
 use Rattle.spm_manifest.specs.declared.need.Target.{Target}
 use Rattle.spm_manifest.specs.declared.need.Target.TheVariants.{Registry, Url, Local}
-use Rattle.spm_shelf.specs.Shelf.{is_package, shelf_of}
+use Rattle.spm_shelf.specs.File.{is_package, shelf_of}
 use Rattle.spm_shelf.specs.declared.file.ShelfFile.{ShelfFile}
 use Rattle.spm_shelf.specs.declared.file.ShelfPackage.{ShelfPackage}
 use Rattle.spm_shelf.specs.declared.file.ShelfRelease.{ShelfRelease}
-use Rattle.spm_version.specs.Release.{Parts, parts_text}
+use Rattle.spm_version.specs.Release.{Parts, ends_in_zip, parts_text}
 use Rattle.spm_version.specs.ReleaseLaws.{release_cmp, release_eq}
 use Rattle.spm_version.specs.Requirement.{contains}
 use Rattle.spm_version.specs.declared.requirement.Requirement.{Requirement}
@@ -33,11 +33,8 @@ use Rattle.spm_version.specs.declared.tools_version.ToolsVersion.{ToolsVersion}
 abbrev pub max_shelf : ℕ
 max_shelf = 32768
 
-abbrev pub ends_in_zip : Parts → Bool
-ends_in_zip release = ends_with nat_eq (parts_text release) (codes ".zip")
-
 abbrev pub is_plain_release : ShelfRelease → Bool
-is_plain_release entry = not (is_some entry.problem) && not (is_some entry.checksum) && not (ends_in_zip entry.release)
+is_plain_release entry = not (is_some entry.problem) && not (is_some entry.checksum) && not (ends_in_zip (parts_text entry.release))
 
 abbrev pub is_plain_package : ShelfPackage → Bool
 is_plain_package entry = list_all is_plain_release entry.releases
@@ -69,15 +66,15 @@ fits_tools tools = is_le (tools_cmp tools running)
 
 -- two dependencies on one package, URL or folder
 abbrev pub same_target : Target → Target → Bool
-same_target (Registry identity) (Registry other) = pointwise nat_eq identity other
+same_target (Registry identity) (Registry other) = bytes_eq identity other
 same_target (Registry identity) (Url url) = false
 same_target (Registry identity) (Local path) = false
 same_target (Url url) (Registry identity) = false
-same_target (Url url) (Url other) = pointwise nat_eq url other
+same_target (Url url) (Url other) = bytes_eq url other
 same_target (Url url) (Local path) = false
 same_target (Local path) (Registry identity) = false
 same_target (Local path) (Url url) = false
-same_target (Local path) (Local other) = pointwise nat_eq path other
+same_target (Local path) (Local other) = bytes_eq path other
 
 abbrev pub are_distinct : List Need → Bool
 are_distinct [] = true
@@ -104,7 +101,7 @@ is_always (Any names) = false
 -- just the traits by default, always
 abbrev pub asks_default : List Ask → Bool
 asks_default [] = false
-asks_default (ask ∷ []) = same_name ask.name (codes "default") && length ask.under == 0
+asks_default (ask ∷ []) = bytes_eq ask.name (codes "default") && length ask.under == 0
 asks_default (ask ∷ next ∷ others) = false
 
 -- a dependency that is built: always on a package of the registry at versions, with its traits by default
@@ -147,7 +144,7 @@ releases_of identity (entry ∷ entries) = if is_package identity entry then ent
 -- the pin of a package in the lock file
 abbrev pub kept_pin : List ℕ → List (List ℕ × Parts) → Option Parts
 kept_pin identity [] = None
-kept_pin identity (pin ∷ pins) = if pointwise nat_eq pin.0 identity then Some pin.1 else kept_pin identity pins
+kept_pin identity (pin ∷ pins) = if bytes_eq pin.0 identity then Some pin.1 else kept_pin identity pins
 
 -- the release of this version, where the package has it
 abbrev pub release_at : Parts → List ShelfRelease → Option ShelfRelease

@@ -1,33 +1,36 @@
--- The one form of words that is built so far: `resolve --shelf FILE ROOT`, in just that order.
-use Rattle.std.specs.Prelude.{ℕ, ◌==◌, ◌&&◌, List, [], ◌∷◌, ◌++◌, Bool, false, not, codes, nat_eq, Option, Some, None, if◌then◌else◌}
-use Rattle.std.specs.Cmp.Lexicographic.{pointwise}
+-- The forms of words that are built so far: `resolve --shelf FILE ROOT` and `check --proof FILE`, each in just that order.
+use Rattle.std.specs.Prelude.{ℕ, ◌==◌, ◌&&◌, List, [], ◌∷◌, ◌++◌, Bool, false, not, codes, Option, Some, None, if◌then◌else◌}
+use Rattle.std.specs.Str.{bytes_eq}
 
--- what the words ask: the shelf's file and the root's folder
+-- what `resolve` is asked: the shelf's file and the root's folder
 pub record Order : Type 0 where
   pub shelf : List ℕ
   pub root : List ℕ
 
-abbrev pub same_text : List ℕ → List ℕ → Bool
-same_text first second = pointwise nat_eq first second
+-- what accepted words ask: to resolve, or to check the proof in a file
+pub data Command : Type 0 where
+  resolve : Order → Command
+  check : List ℕ → Command
 
 -- a value isn't empty and doesn't begin with `-`
 abbrev pub is_value : List ℕ → Bool
 is_value [] = false
 is_value (byte ∷ rest) = not (byte == 45)
 
-abbrev pub order_in : List ℕ → List ℕ → List ℕ → List ℕ → Option Order
-order_in command option shelf root =
-    if same_text command (codes "resolve") && same_text option (codes "--shelf") && is_value shelf && is_value root
-    then Some (record { shelf = shelf; root = root }) else None
+abbrev pub check_in : List ℕ → List ℕ → List ℕ → Option Command
+check_in command option file =
+    if bytes_eq command (codes "check") && bytes_eq option (codes "--proof") && is_value file then Some (check file) else None
 
--- what the words ask, if they are of that form
-abbrev pub order_of : List (List ℕ) → Option Order
-order_of [] = None
-order_of (command ∷ []) = None
-order_of (command ∷ option ∷ []) = None
-order_of (command ∷ option ∷ shelf ∷ []) = None
-order_of (command ∷ option ∷ shelf ∷ root ∷ []) = order_in command option shelf root
-order_of (command ∷ option ∷ shelf ∷ root ∷ other ∷ others) = None
+abbrev pub resolve_in : List ℕ → List ℕ → List ℕ → List ℕ → Option Command
+resolve_in command option shelf root =
+    if bytes_eq command (codes "resolve") && bytes_eq option (codes "--shelf") && is_value shelf && is_value root
+    then Some (resolve (record { shelf = shelf; root = root })) else None
+
+-- what the words ask, if they are of one of these forms
+abbrev pub command_of : List (List ℕ) → Option Command
+command_of (command ∷ option ∷ file ∷ []) = check_in command option file
+command_of (command ∷ option ∷ shelf ∷ root ∷ []) = resolve_in command option shelf root
+command_of words = None
 
 -- the names of the root's two files
 abbrev pub manifest_name : List ℕ → List ℕ

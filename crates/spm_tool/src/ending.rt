@@ -1,5 +1,9 @@
+ghost use Rattle.std.specs.Prelude.{◌≡◌};
+ghost use Rattle.spm_tool.specs.declared.ending.RootEnding.TheVariants as root;
+ghost use Rattle.spm_tool.specs.declared.ending.ShelfEnding.TheVariants as shelf;
+
 use spm_ident::Identity;
-use spm_version::{Bytes, Kind, Requirement, Text, ToolsVersion};
+use spm_version::{Bytes, Kind, NoMemory, Requirement, Text, ToolsVersion};
 
 /// A call of the desk for a root.
 #[derive(Clone, Copy, Debug, PartialEq, Eq)]
@@ -35,6 +39,14 @@ pub enum RootEnding {
     Memory,
 }
 
+impl From<NoMemory> for RootEnding {
+    ghost from_gives = { λ _ ending. ending ≡ root.Memory };
+
+    fn from(_e: NoMemory) -> RootEnding {
+        RootEnding::Memory
+    }
+}
+
 /// How a run ends that has no shelf to resolve with.
 #[derive(Clone, Copy, Debug, PartialEq, Eq)]
 pub enum ShelfEnding {
@@ -46,6 +58,14 @@ pub enum ShelfEnding {
     Fault,
     /// Want of memory before the root began.
     Memory,
+}
+
+impl From<NoMemory> for ShelfEnding {
+    ghost from_gives = { λ _ ending. ending ≡ shelf.Memory };
+
+    fn from(_e: NoMemory) -> ShelfEnding {
+        ShelfEnding::Memory
+    }
 }
 
 /// How a run with accepted words ends.

@@ -1,6 +1,17 @@
 ghost use Rattle.std.specs.Prelude.{◌≡◌, IfOk};
 ghost use Rattle.std.specs.List.{list_all, list_any};
-ghost use Rattle.spm_tool.specs.Selection.{are_distinct, asks_default, fits_tools, is_always, is_built, is_leaf, is_plain_need, is_registry, is_versions, same_target};
+ghost use Rattle.spm_tool.specs.Selection.{
+  are_distinct,
+  asks_default,
+  fits_tools,
+  is_always,
+  is_built,
+  is_leaf,
+  is_plain_need,
+  is_registry,
+  is_versions,
+  same_target,
+};
 
 use spm_manifest::{Ask, Guard, Manifest, ManifestFault, Need, Target};
 use spm_version::{NoMemory, Requirement, Text, ToolsVersion};
@@ -20,7 +31,7 @@ pub fn fits_tools(tools: ToolsVersion) -> bool
     tools <= RUNNING
 }
 
-/// Whether two dependencies are on one package, URL or folder.
+// Whether two dependencies are on one package, URL or folder.
 fn same_target(first: &Target, second: &Target) -> bool
     ensures { result ≡ same_target first.now second.now }
 {
@@ -32,7 +43,7 @@ fn same_target(first: &Target, second: &Target) -> bool
     }
 }
 
-/// Whether one of the dependencies is on the same as this one.
+// Whether one of the dependencies is on the same as this one.
 fn has_target(need: &Need, others: &[Need]) -> bool
     ensures { result ≡ list_any (λ other. same_target need.now.target other.target) others.now }
 {
@@ -44,7 +55,7 @@ fn has_target(need: &Need, others: &[Need]) -> bool
     false
 }
 
-/// Whether no two dependencies are on the same.
+// Whether no two dependencies are on the same.
 fn are_distinct(needs: &[Need]) -> bool
     ensures { result ≡ are_distinct needs.now }
 {
@@ -58,7 +69,7 @@ fn are_distinct(needs: &[Need]) -> bool
     true
 }
 
-/// Whether a dependency is on a package of the registry.
+// Whether a dependency is on a package of the registry.
 fn is_registry(target: &Target) -> bool
     ensures { result ≡ is_registry target.now }
 {
@@ -68,7 +79,7 @@ fn is_registry(target: &Target) -> bool
     }
 }
 
-/// Whether a requirement is of versions.
+// Whether a requirement is of versions.
 fn is_versions(requirement: &Requirement) -> bool
     ensures { result ≡ is_versions requirement.now }
 {
@@ -78,7 +89,7 @@ fn is_versions(requirement: &Requirement) -> bool
     }
 }
 
-/// Whether a dependency is always in force.
+// Whether a dependency is always in force.
 fn is_always(guard: &Guard) -> bool
     ensures { result ≡ is_always guard.now }
 {
@@ -88,7 +99,7 @@ fn is_always(guard: &Guard) -> bool
     }
 }
 
-/// Whether just the traits by default are asked, always.
+// Whether just the traits by default are asked, always.
 fn asks_default(asked: &[Ask]) -> bool
     ensures { result ≡ asks_default asked.now }
 {
@@ -98,7 +109,7 @@ fn asks_default(asked: &[Ask]) -> bool
     }
 }
 
-/// Whether a dependency has only what is built so far.
+// Whether a dependency has only what is built so far.
 fn is_plain_need(need: &Need) -> bool
     ensures { result ≡ is_plain_need need.now }
 {
@@ -108,7 +119,7 @@ fn is_plain_need(need: &Need) -> bool
         && asks_default(need.asked.as_slice())
 }
 
-/// Whether each of the dependencies has only what is built so far.
+// Whether each of the dependencies has only what is built so far.
 fn are_plain_needs(needs: &[Need]) -> bool
     ensures { result ≡ list_all is_plain_need needs.now }
 {

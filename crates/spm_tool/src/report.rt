@@ -1,18 +1,28 @@
-ghost use Rattle.std.specs.Prelude.{◌≡◌, ◌<◌, ◌^◌, IfOk, codes, string_bytes};
-ghost use Rattle.spm_outside.specs.Sink.{PutsAll, SinkFaultsAfter};
-ghost use Rattle.spm_tool.specs.Report.{report_of, requirement_text, root_report, root_status, root_text, shelf_report, shelf_status, status_of, summary_text, turns_of};
-ghost use Rattle.spm_tool.specs.Resolves.{Tells};
+ghost use Rattle.std.specs.Prelude.{◌≡◌, ◌<◌, ◌^◌, ℕ, List, Result, IfOk, codes, string_bytes, ⊤};
+ghost use Rattle.spm_outside.specs.declared.fault.CallFault.{CallFault};
+ghost use Rattle.spm_tool.specs.Report.{
+  report_of,
+  requirement_text,
+  root_report,
+  root_text,
+  shelf_report,
+  summary_text,
+  turns_of,
+  words_report,
+};
+ghost use Rattle.spm_tool.specs.Resolves.{Tells, Writes};
 ghost use Rattle.spm_tool.specs.WordsView.{order_view};
 
 use crate::ending::{Ending, RootCall, RootEnding, ShelfEnding};
+use crate::files::{lock_name, manifest_name};
 use crate::manifest::RUNNING;
-use crate::root::{lock_name, manifest_name};
+use crate::status::{root_status, status_after};
 use crate::words::Order;
-use spm_outside::{Sink, SinkFault, put_all};
+use spm_outside::{Sink, put_all};
 use spm_version::{NoMemory, Requirement};
 use std::alloc::Global;
 
-/// A requirement as a derivation writes it.
+// A requirement as a derivation writes it.
 fn requirement_text(alloc: Global, requirement: &Requirement) -> Result<String, NoMemory>
     ensures { IfOk result (λ text. string_bytes text ≡ requirement_text requirement.now) }
 {
@@ -25,7 +35,7 @@ fn requirement_text(alloc: Global, requirement: &Requirement) -> Result<String, 
     }
 }
 
-/// What a root's lines say behind its name.
+// What a root's lines say behind its name.
 fn root_text(alloc: Global, root: &str, ending: &RootEnding) -> Result<String, NoMemory>
     ensures { IfOk result (λ text. string_bytes text ≡ root_text root.now ending.now) }
 {
@@ -62,48 +72,41 @@ fn root_text(alloc: Global, root: &str, ending: &RootEnding) -> Result<String, N
     }
 }
 
-/// The turns of the plain solver for so many dependencies.
+// The turns of the plain solver for so many dependencies.
 fn turns_of(count: usize) -> u128
     ensures { result ≡ turns_of count }
 {
     4 + 6 * count as u128
 }
 
-/// The last line: how many roots ended in which way.
-fn summary_text(ending: &RootEnding) -> &'static str
-    ensures { result.now ≡ summary_text ending.now }
+// The last line: how many roots ended in which way, by the root's status.
+fn summary_text(status: u8) -> &'static str
+    ensures { result.now ≡ summary_text status }
 {
-    match ending {
-        RootEnding::Missing
-        | RootEnding::Unreadable(_, _)
-        | RootEnding::TooNew(_)
-        | RootEnding::NotBuilt
-        | RootEnding::LockUnreadable(_, _) => {
-            "roots 1: resolved 0, refuted 0, refused 1, faulty 0, differing 0, cancelled 0, memory 0"
-        }
-        RootEnding::Refuted(_, _) => {
-            "roots 1: resolved 0, refuted 1, refused 0, faulty 0, differing 0, cancelled 0, memory 0"
-        }
-        RootEnding::Fault(_) =>
+    match status {
+        0 =>
+            "roots 1: resolved 1, refuted 0, refused 0, faulty 0, differing 0, cancelled 0, memory 0",
+        1 =>
+            "roots 1: resolved 0, refuted 1, refused 0, faulty 0, differing 0, cancelled 0, memory 0",
+        4 =>
             "roots 1: resolved 0, refuted 0, refused 0, faulty 1, differing 0, cancelled 0, memory 0",
-        RootEnding::Resolved(_, _) => {
-            "roots 1: resolved 1, refuted 0, refused 0, faulty 0, differing 0, cancelled 0, memory 0"
-        }
-        RootEnding::Memory =>
+        6 =>
             "roots 1: resolved 0, refuted 0, refused 0, faulty 0, differing 0, cancelled 0, memory 1",
+        _ =>
+            "roots 1: resolved 0, refuted 0, refused 1, faulty 0, differing 0, cancelled 0, memory 0",
     }
 }
 
-/// The lines on a root.
+// The lines on a root.
 fn root_report(alloc: Global, root: &str, ending: &RootEnding) -> Result<String, NoMemory>
     ensures { IfOk result (λ text. string_bytes text ≡ root_report root.now ending.now) }
 {
     let text = root_text(alloc, root, ending)?;
-    let summary = summary_text(ending);
+    let summary = summary_text(root_status(ending));
     Ok(format!(in alloc; "{root}: {text}\n{summary}\n")?)
 }
 
-/// The line on a run without a shelf.
+// The line on a run without a shelf.
 fn shelf_report(alloc: Global, name: &str, ending: ShelfEnding) -> Result<String, NoMemory>
     ensures { IfOk result (λ text. string_bytes text ≡ shelf_report name.now ending) }
 {
@@ -115,7 +118,7 @@ fn shelf_report(alloc: Global, name: &str, ending: ShelfEnding) -> Result<String
     }
 }
 
-/// The lines on a run with accepted words.
+// The lines on a run with accepted words.
 pub fn report_of(alloc: Global, order: &Order, ending: &Ending) -> Result<String, NoMemory>
     ensures { IfOk result (λ text. string_bytes text ≡ report_of (order_view order.now) ending.now) }
 {
@@ -125,54 +128,22 @@ pub fn report_of(alloc: Global, order: &Order, ending: &Ending) -> Result<String
     }
 }
 
-/// The exit status that a root gives.
-fn root_status(ending: &RootEnding) -> u8
-    ensures { result ≡ root_status ending.now }
+// Writes the report, if there was memory to make it, and gives the exit status with the sink's part in it.
+pub fn tell<O: Sink>(report: Result<String, NoMemory>, status: u8, out: &mut O) -> u8
+    ensures { (text : List ℕ) → IfOk report (λ made. string_bytes made ≡ text)
+        → Tells text status (O.state out.old) (O.state out.new) result }
 {
-    match ending {
-        RootEnding::Missing
-        | RootEnding::Unreadable(_, _)
-        | RootEnding::TooNew(_)
-        | RootEnding::NotBuilt
-        | RootEnding::LockUnreadable(_, _) => 3,
-        RootEnding::Refuted(_, _) => 1,
-        RootEnding::Fault(_) => 4,
-        RootEnding::Resolved(_, _) => 0,
-        RootEnding::Memory => 6,
+    match report {
+        Ok(report) => status_after(status, put_all(out, report.as_bytes())),
+        Err(NoMemory) => 6,
     }
 }
 
-/// The exit status that a run without a shelf gives.
-fn shelf_status(ending: ShelfEnding) -> u8
-    ensures { result ≡ shelf_status ending }
+// Says that the words aren't accepted. The status is 2, whatever the sink does.
+pub fn refuse_words<O: Sink>(out: &mut O) -> u8
+    ensures report { (answer : Result ⊤ CallFault) × Writes words_report (O.state out.old) (O.state out.new) answer }
+    ensures status { result ≡ 2 }
 {
-    match ending {
-        ShelfEnding::Missing | ShelfEnding::NotBuilt => 3,
-        ShelfEnding::Fault => 4,
-        ShelfEnding::Memory => 6,
-    }
-}
-
-/// The exit status that a run with accepted words gives.
-pub fn status_of(ending: &Ending) -> u8
-    ensures { result ≡ status_of ending.now }
-{
-    match ending {
-        Ending::Shelf(shelf) => shelf_status(*shelf),
-        Ending::Root(root) => root_status(root),
-    }
-}
-
-/// Writes the report, and gives the exit status with the sink's part in it.
-pub fn tell<O: Sink>(report: &str, status: u8, out: &mut O) -> u8
-    ensures { Tells report.now status
-        (record { written = O.written out.old; faults = O.faults out.old })
-        (record { written = O.written out.new; faults = O.faults out.new }) result }
-{
-    match put_all(out, report.as_bytes()) {
-        Ok(()) => status,
-        Err(_) if status == 2 => 2,
-        Err(SinkFault::Failed) if status != 6 => 4,
-        Err(_) => 6,
-    }
+    let _ = put_all(out, b"words: not built yet\n");
+    2
 }

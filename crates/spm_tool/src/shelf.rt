@@ -1,35 +1,27 @@
 ghost use Rattle.std.specs.Prelude.{◌≡◌, ◌≢◌, Ok, Err, Some, None, IfOk, IfErr};
 ghost use Rattle.std.specs.List.{list_all};
-ghost use Rattle.spm_tool.specs.Selection.{ends_in_zip, is_plain_package, is_plain_release, plain_shelf_of};
+ghost use Rattle.spm_tool.specs.Selection.{is_plain_package, is_plain_release, plain_shelf_of};
 
 use spm_json::ReadFault;
 use spm_shelf::{ShelfFile, ShelfPackage, ShelfRelease};
-use spm_version::{NoMemory, Release};
+use spm_version::NoMemory;
 use std::alloc::Global;
 
-/// How long a shelf file may be, in bytes.
+// How long a shelf file may be, in bytes.
 const MAX_SHELF: usize = 32768;
 
-/// Whether the text of a version ends in `.zip`.
-fn ends_in_zip(alloc: Global, release: &Release) -> Result<bool, NoMemory>
-    ensures { IfOk result (λ ends. ends ≡ ends_in_zip release.now) }
-{
-    let text = release.text(alloc)?;
-    Ok(text.as_str().as_bytes().ends_with(b".zip"))
-}
-
-/// Whether a release on a shelf has only what is built so far.
+// Whether a release on a shelf has only what is built so far.
 fn is_plain_release(alloc: Global, release: &ShelfRelease) -> Result<bool, NoMemory>
     ensures { IfOk result (λ plain. plain ≡ is_plain_release release.now) }
 {
     if release.problem.is_some() || release.checksum.is_some() {
         return Ok(false);
     }
-    let ends = ends_in_zip(alloc, &release.release)?;
+    let ends = release.release.ends_in_zip(alloc)?;
     Ok(!ends)
 }
 
-/// Whether each release of a package on a shelf has only what is built so far.
+// Whether each release of a package on a shelf has only what is built so far.
 fn is_plain_package(alloc: Global, entry: &ShelfPackage) -> Result<bool, NoMemory>
     ensures { IfOk result (λ plain. plain ≡ is_plain_package entry.now) }
 {
@@ -41,7 +33,7 @@ fn is_plain_package(alloc: Global, entry: &ShelfPackage) -> Result<bool, NoMemor
     Ok(true)
 }
 
-/// Whether each package on a shelf has only what is built so far.
+// Whether each package on a shelf has only what is built so far.
 fn are_plain_packages(alloc: Global, packages: &[ShelfPackage]) -> Result<bool, NoMemory>
     ensures { IfOk result (λ plain. plain ≡ list_all is_plain_package packages.now) }
 {

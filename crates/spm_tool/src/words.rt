@@ -1,9 +1,8 @@
 ghost use Rattle.std.specs.Prelude.{◌≡◌, ℕ, List, map, option_map, string_bytes};
-ghost use Rattle.spm_tool.specs.Check.{checked_file};
-ghost use Rattle.spm_tool.specs.Words.{is_value, order_of};
-ghost use Rattle.spm_tool.specs.WordsView.{order_view};
+ghost use Rattle.spm_tool.specs.Words.{check_in, command_of, is_value, resolve_in};
+ghost use Rattle.spm_tool.specs.WordsView.{command_view};
 
-/// What accepted words ask.
+/// What `resolve` is asked.
 #[derive(Clone, Copy)]
 pub struct Order<'w> {
     /// The name of the shelf file.
@@ -12,7 +11,16 @@ pub struct Order<'w> {
     pub root: &'w str,
 }
 
-/// A value isn't empty and doesn't begin with `-`.
+/// What accepted words ask.
+#[derive(Clone, Copy)]
+pub enum Command<'w> {
+    /// `resolve --shelf FILE ROOT`.
+    Resolve(Order<'w>),
+    /// `check --proof FILE`, with the name of the file.
+    Check(&'w str),
+}
+
+// A value isn't empty and doesn't begin with `-`.
 fn is_value(word: &str) -> bool
     ensures { result ≡ is_value word.now }
 {
@@ -22,35 +30,43 @@ fn is_value(word: &str) -> bool
     }
 }
 
-/// Reads the words of `resolve`, of which one form is built so far: `resolve --shelf FILE ROOT`.
-pub fn read_words(words: &[String]) -> Option<Order<'_>>
-    ensures { option_map order_view result ≡ order_of (map string_bytes words.now) }
-{
-    let [command, option, shelf, root] = words else {
-        return None;
-    };
-    let (shelf, root) = (shelf.as_str(), root.as_str());
-    if command.as_str() == "resolve"
-        && option.as_str() == "--shelf"
-        && is_value(shelf)
-        && is_value(root)
+impl<'w> Command<'w> {
+    /// What the words ask, or none where they are of no form that is built so far.
+    pub fn read(words: &'w [String]) -> Option<Command<'w>>
+        ensures { option_map command_view result ≡ command_of (map string_bytes words.now) }
     {
-        Some(Order { shelf, root })
+        match words {
+            [command, option, file] => check_in(command.as_str(), option.as_str(), file.as_str()),
+            [command, option, shelf, root] => {
+                resolve_in(
+                    command.as_str(),
+                    option.as_str(),
+                    shelf.as_str(),
+                    root.as_str(),
+                )
+            }
+            _ => None,
+        }
+    }
+}
+
+// The command of three words.
+fn check_in<'w>(command: &str, option: &str, file: &'w str) -> Option<Command<'w>>
+    ensures { option_map command_view result ≡ check_in command.now option.now file.now }
+{
+    if command == "check" && option == "--proof" && is_value(file) {
+        Some(Command::Check(file))
     } else {
         None
     }
 }
 
-/// Reads the words of a command that waits for nobody, of which one form is built so far: `check --proof FILE`. It gives the file.
-pub fn read_check(words: &[String]) -> Option<&str>
-    ensures { option_map (λ file. file.now) result ≡ checked_file (map string_bytes words.now) }
+// The command of four words.
+fn resolve_in<'w>(command: &str, option: &str, shelf: &'w str, root: &'w str) -> Option<Command<'w>>
+    ensures { option_map command_view result ≡ resolve_in command.now option.now shelf.now root.now }
 {
-    let [command, option, file] = words else {
-        return None;
-    };
-    let file = file.as_str();
-    if command.as_str() == "check" && option.as_str() == "--proof" && is_value(file) {
-        Some(file)
+    if command == "resolve" && option == "--shelf" && is_value(shelf) && is_value(root) {
+        Some(Command::Resolve(Order { shelf, root }))
     } else {
         None
     }

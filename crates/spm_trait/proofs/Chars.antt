@@ -12,11 +12,13 @@ abbrev pub first_bad_from : ℕ → List ℕ → Option ℕ
 first_bad_from place [] = None
 first_bad_from place (char ∷ others) = cond (stands place char) (first_bad_from (place + 1) others) (Some place)
 
+-- behind the first character, the place alone is not looked at
 first_bad_from-behind : (place : ℕ) (text : List ℕ) → 0 < place → first_bad_from place text ≡ first_bad_behind place text
 first_bad_from-behind place [] h = refl
 first_bad_from-behind place (char ∷ others) h =
     rw (ne_eqb place 0 (omega arith), first_bad_from-behind (place + 1) others (omega arith)) refl
 
+-- from the start it is the first bad character
 pub first_bad_from-start : (text : List ℕ) → first_bad_from 0 text ≡ first_bad text
 first_bad_from-start [] = refl
 first_bad_from-start (char ∷ others) =
@@ -33,5 +35,6 @@ first_bad_from-more text turn place char within is =
     let same_char : get_or text turn char ≡ char = sym (ap (λ (p : ℕ × ℕ). p.1) at) in
     (same_place, at_drop_more (first_bad_from turn) text turn char below ∙ rw (same_char, same_place) refl)
 
+-- at the end there is none
 pub first_bad_from-end : (text : List ℕ) (turn : ℕ) → turn ≡ length (enumerate_from 0 text) → first_bad_from turn (drop turn text) ≡ None
 first_bad_from-end text turn all = at_drop_all (first_bad_from turn) text turn (omega (arith, length-enumerate_from 0 text))

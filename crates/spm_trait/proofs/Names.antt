@@ -1,4 +1,5 @@
 -- Lists of names: whether one has a name, and their order. Such a list is often that of the keys of a set.
+use Rattle.std.specs.Str.{bytes_eq}
 use Rattle.std.proofs.Common.{◌≡◌, ℕ, Bool, true, false, ◌||◌, List, [], ◌∷◌, ◌++◌, refl, sym, ap, ◌∙◌, inl, inr}
 use Rattle.std.specs.Prelude.{Contains}
 use Rattle.std.specs.Borrow.{Bor}
@@ -14,25 +15,30 @@ use Rattle.std.proofs.lemmas.Cmp.{tied_itself}
 use Rattle.std.proofs.lemmas.List.Folds.{list_any-append}
 use Rattle.std.proofs.lemmas.Map.Text.{is_eq-slice_cmp}
 use Rattle.std.proofs.lemmas.Map.Views.{Contains-from_any, list_any-from_Contains}
-use Rattle.spm_trait.specs.TraitName.{same_name}
 use Rattle.spm_trait.specs.Closure.{IsInOrder}
 use Rattle.spm_trait.specs.Reached.{names_of}
 
+-- the name is among these
 abbrev pub has : List (List ℕ) → List ℕ → Bool
-has names name = list_any (same_name name) names
+has names name = list_any (bytes_eq name) names
 
-pub same-from_true : (x y : List ℕ) → same_name x y ≡ true → x ≡ y
+-- equal by the test is one
+pub same-from_true : (x y : List ℕ) → bytes_eq x y ≡ true → x ≡ y
 same-from_true x y h = (bytes_decides x y).0 h
 
-pub same_name-itself : (x : List ℕ) → same_name x x ≡ true
+-- a name is equal to itself
+pub same_name-itself : (x : List ℕ) → bytes_eq x x ≡ true
 same_name-itself x = nat_list_eq_equiv.refl x
 
-pub same_name-turned : (x y : List ℕ) → same_name x y ≡ same_name y x
+-- the test of two names goes both ways
+pub same_name-turned : (x y : List ℕ) → bytes_eq x y ≡ bytes_eq y x
 same_name-turned x y = nat_list_eq_equiv.symm x y
 
+-- what is there by the test is contained
 pub Contains-from_has : (names : List (List ℕ)) (name : List ℕ) → has names name ≡ true → Contains names name
 Contains-from_has names name h = Contains-from_any same-from_true name names h
 
+-- what is contained is there by the test
 pub has-from_Contains : (names : List (List ℕ)) (name : List ℕ) → Contains names name → has names name ≡ true
 has-from_Contains names name h = list_any-from_Contains nat_list_eq_equiv name names h
 
@@ -40,38 +46,43 @@ has-from_Contains names name h = list_any-from_Contains nat_list_eq_equiv name n
 abbrev pub key_cmp : Bor (List ℕ) → Bor (List ℕ) → Ordering
 key_cmp x y = slice_cmp nat_cmp x.now y.now
 
+-- a truth counts once
 or_twice : (a b : Bool) → (a || b) ≡ (a || (a || b))
 or_twice true b = refl
 or_twice false b = refl
 
+-- truths may change places
 or_swapped : (a b c : Bool) → (a || (b || c)) ≡ (b || (a || c))
 or_swapped true true c = refl
 or_swapped true false c = refl
 or_swapped false b c = refl
 
+-- what is ordered as equal is one
 same-from_Equal : (x y : List ℕ) → slice_cmp nat_cmp x y ≡ Equal → x ≡ y
 same-from_Equal x y h = same-from_true x y (sym (is_eq-slice_cmp x y) ∙ ap is_eq h)
 
+-- a key that is put before, at or behind another is there
 put_key : (o : Ordering) (key first : Bor (List ℕ)) (others put : List (Bor (List ℕ))) (name : List ℕ)
     → slice_cmp nat_cmp key.now first.now ≡ o
-    → has (names_of put) name ≡ (same_name name key.now || has (names_of others) name)
+    → has (names_of put) name ≡ (bytes_eq name key.now || has (names_of others) name)
     → has (names_of (match_ordering o (key ∷ first ∷ others) (first ∷ others) (first ∷ put))) name
-    ≡ (same_name name key.now || has (names_of (first ∷ others)) name)
+    ≡ (bytes_eq name key.now || has (names_of (first ∷ others)) name)
 put_key Less key first others put name is later = refl
 put_key Equal key first others put name is later =
-    rw (same-from_Equal key.now first.now is) (or_twice (same_name name first.now) (has (names_of others) name))
+    rw (same-from_Equal key.now first.now is) (or_twice (bytes_eq name first.now) (has (names_of others) name))
 put_key Greater key first others put name is later =
-    rw later (or_swapped (same_name name first.now) (same_name name key.now) (has (names_of others) name))
+    rw later (or_swapped (bytes_eq name first.now) (bytes_eq name key.now) (has (names_of others) name))
 
+-- after a key is inserted, it and the earlier keys are there
 has-insert_key : (key : Bor (List ℕ)) (keys : List (Bor (List ℕ))) (name : List ℕ)
-    → has (names_of (insert_key key_cmp keys key)) name ≡ (same_name name key.now || has (names_of keys) name)
+    → has (names_of (insert_key key_cmp keys key)) name ≡ (bytes_eq name key.now || has (names_of keys) name)
 has-insert_key key [] name = refl
 has-insert_key key (first ∷ others) name =
     put_key (key_cmp key first) key first others (insert_key key_cmp others key) name refl (has-insert_key key others name)
 
 -- a set has a name that was put into it, and those that it had
 pub has-put : (key : Bor (List ℕ)) (keys after : List (Bor (List ℕ))) → after ≡ insert_key key_cmp keys key
-    → (name : List ℕ) → has (names_of after) name ≡ (same_name name key.now || has (names_of keys) name)
+    → (name : List ℕ) → has (names_of after) name ≡ (bytes_eq name key.now || has (names_of keys) name)
 has-put key keys after is name = rw is (has-insert_key key keys name)
 
 -- a set has a name where a query finds it
@@ -87,6 +98,7 @@ IsInOrder-from_keys [] h = tt
 IsInOrder-from_keys (key ∷ []) h = tt
 IsInOrder-from_keys (key ∷ next ∷ keys) h = (h.0.0, IsInOrder-from_keys (next ∷ keys) h.1)
 
+-- the end of names in order is in order
 IsInOrder-behind : (before names : List (List ℕ)) → IsInOrder (before ++ names) → IsInOrder names
 IsInOrder-behind [] names h = h
 IsInOrder-behind (name ∷ []) [] h = tt
@@ -96,11 +108,12 @@ IsInOrder-behind (name ∷ next ∷ before) names h = IsInOrder-behind (next ∷
 -- a name is below each that stands behind it
 below_later : (name : List ℕ) (behind : List (List ℕ)) → IsInOrder (name ∷ behind) → (other : List ℕ) → has behind other ≡ true → slice_cmp nat_cmp name other ≡ Less
 below_later name [] h other there = cc
-below_later name (next ∷ behind) h other there = elim (or_cases (same_name other next) (has behind other) there) [
+below_later name (next ∷ behind) h other there = elim (or_cases (bytes_eq other next) (has behind other) there) [
   | inl same ↦ rw (same-from_true other next same) h.0
   | inr later ↦ nat_list_cmp_total.trans name next other h.0 (below_later next behind h.1 other later)
 ]
 
+-- of two of which one holds, the second where the first does not
 or_second : (a b : Bool) → (a || b) ≡ true → a ≡ false → b ≡ true
 or_second true b h apart = cc
 or_second false b h apart = h
@@ -109,8 +122,8 @@ or_second false b h apart = h
 pub le-from_place : (before behind : List (List ℕ)) (name other : List ℕ) → IsInOrder (before ++ name ∷ behind)
     → has (before ++ name ∷ behind) other ≡ true → has before other ≡ false → is_le (slice_cmp nat_cmp name other) ≡ true
 le-from_place before behind name other h there apart =
-    let later = or_second (has before other) (same_name other name || has behind other) (sym (list_any-append (same_name other) before (name ∷ behind)) ∙ there) apart in
-    elim (or_cases (same_name other name) (has behind other) later) [
+    let later = or_second (has before other) (bytes_eq other name || has behind other) (sym (list_any-append (bytes_eq other) before (name ∷ behind)) ∙ there) apart in
+    elim (or_cases (bytes_eq other name) (has behind other) later) [
       | inl same ↦ rw (same-from_true other name same) (ap is_le (tied_itself nat_list_cmp_total name))
       | inr behind_it ↦ ap is_le (below_later name behind (IsInOrder-behind before (name ∷ behind) h) other behind_it)
     ]

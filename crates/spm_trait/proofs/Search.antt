@@ -1,5 +1,6 @@
 -- The search for the least set: a set of names that are reached, and a list of names that wait. Each turn takes a name from
 -- the list. One that is new goes into the set, and what it enables waits.
+use Rattle.std.specs.Str.{bytes_eq}
 use Rattle.std.proofs.Common.{◌≡◌, ℕ, ◌+◌, ◌<◌, ◌≤◌, Bool, true, false, cond, ◌||◌, List, [], ◌∷◌, ◌++◌, length, Option, Some, refl, sym, ap, ◌∙◌, inl, inr, ◌⊎◌, arith, length-append}
 use Rattle.std.specs.Prelude.{Contains}
 use Rattle.std.specs.Borrow.{Bor}
@@ -11,7 +12,6 @@ use Rattle.std.proofs.lemmas.Bool.{or_cases}
 use Rattle.std.proofs.lemmas.List.{length_push}
 use Rattle.std.proofs.lemmas.List.Elements.{Contains-append_left, Contains-append_right, Contains-append_cases, Contains-push, Contains-push_cases}
 use Rattle.std.proofs.lemmas.Map.Text.{is_eq-slice_cmp}
-use Rattle.spm_trait.specs.TraitName.{same_name}
 use Rattle.spm_trait.specs.Closure.{IsInOrder}
 use Rattle.spm_trait.specs.Reached.{IsInLeastBy, IsReached, names_or_none}
 use Rattle.spm_trait.proofs.Names.{has, same-from_true, same_name-itself, same_name-turned, has-from_Contains}
@@ -37,6 +37,7 @@ module _ (enables : List ℕ → List (List ℕ)) (asked : List (List ℕ)) wher
     | inr same ↦ inl (ap (has reached) (sym same) ∙ there)
   ]
 
+  -- a name that was reached before is let go
   pub IsSearch-old : (reached waiting : List (List ℕ)) (x : List ℕ) → has reached x ≡ true
       → IsSearch enables asked reached (waiting ++ x ∷ []) → IsSearch enables asked reached waiting
   IsSearch-old reached waiting x there s = record {
@@ -48,9 +49,9 @@ module _ (enables : List ℕ → List (List ℕ)) (asked : List (List ℕ)) wher
   }
 
   -- the name of a turn is new
-  module _ (reached after waiting : List (List ℕ)) (x : List ℕ) (puts : (name : List ℕ) → has after name ≡ (same_name name x || has reached name)) where
+  module _ (reached after waiting : List (List ℕ)) (x : List ℕ) (puts : (name : List ℕ) → has after name ≡ (bytes_eq name x || has reached name)) where
     still : (name : List ℕ) → has reached name ≡ true → has after name ≡ true
-    still name h = puts name ∙ or_right (same_name name x) (has reached name) h
+    still name h = puts name ∙ or_right (bytes_eq name x) (has reached name) h
       where
         or_right : (a b : Bool) → b ≡ true → (a || b) ≡ true
         or_right true b h = refl
@@ -70,7 +71,7 @@ module _ (enables : List ℕ → List (List ℕ)) (asked : List (List ℕ)) wher
     IsSearch-new in_order s =
         let x_least = s.waiting_least x (Contains-push waiting x) in
         let least : (name : List ℕ) → has after name ≡ true → IsInLeastBy enables asked name =
-        λ name h. elim (or_cases (same_name name x) (has reached name) (sym (puts name) ∙ h)) [
+        λ name h. elim (or_cases (bytes_eq name x) (has reached name) (sym (puts name) ∙ h)) [
           | inl same ↦ rw (same-from_true name x same) x_least
           | inr old ↦ s.reached_least name old
         ] in
@@ -81,7 +82,7 @@ module _ (enables : List ℕ → List (List ℕ)) (asked : List (List ℕ)) wher
             | inr enabled ↦ λ all closed. closed.enabled_names x name (x_least all closed) enabled
           ];
           asked_seen = λ name h. seen_more (enables x) name (s.asked_seen name h);
-          enabled_seen = λ name other h e. elim (or_cases (same_name name x) (has reached name) (sym (puts name) ∙ h)) [
+          enabled_seen = λ name other h e. elim (or_cases (bytes_eq name x) (has reached name) (sym (puts name) ∙ h)) [
             | inl same ↦ inr (Contains-append_right waiting (enables x) other (rw (same-from_true name x same) at e))
             | inr old ↦ seen_more (enables x) other (s.enabled_seen name other old e)
           ];
@@ -93,6 +94,7 @@ module _ (enables : List ℕ → List (List ℕ)) (asked : List (List ℕ)) wher
   seen_end reached name (inl h) = h
   seen_end reached name (inr h) = absurd (omega (arith, h.1))
 
+  -- once no name waits, the reached ones are the least set
   pub IsReached-end : (reached : List (List ℕ)) → IsSearch enables asked reached [] → IsReached enables asked reached
   IsReached-end reached s = record {
     closed = record {
@@ -105,30 +107,36 @@ module _ (enables : List ℕ → List (List ℕ)) (asked : List (List ℕ)) wher
 
 -- ---- the measure: what the entries that are not reached enable, and the names that wait
 
+-- the entries of the map
 abbrev pub Entries : Type 0
 Entries = List (Bor (List ℕ) × Bor (List (List ℕ)))
 
+-- how many names an entry can still give
 abbrev pub left_at : Bool → List (List ℕ) → ℕ
 left_at true names = 0
 left_at false names = length names
 
+-- how many names the unreached entries can still give
 abbrev pub left : Entries → List (List ℕ) → ℕ
 left [] reached = 0
 left (entry ∷ entries) reached = left_at (has reached entry.0.now) entry.1.now + left entries reached
 
-module _ (reached after : List (List ℕ)) (x : List ℕ) (puts : (name : List ℕ) → has after name ≡ (same_name name x || has reached name)) where
+module _ (reached after : List (List ℕ)) (x : List ℕ) (puts : (name : List ℕ) → has after name ≡ (bytes_eq name x || has reached name)) where
+  -- a reached entry gives no more
   left_at-le : (same there : Bool) (names : List (List ℕ)) → left_at (same || there) names ≤ left_at there names
   left_at-le true there names = omega arith
   left_at-le false there names = omega arith
 
+  -- with one name more reached, no more is left
   left-le : (entries : Entries) → left entries after ≤ left entries reached
   left-le [] = omega arith
   left-le (entry ∷ entries) =
-      let here = left_at-le (same_name entry.0.now x) (has reached entry.0.now) entry.1.now in
+      let here = left_at-le (bytes_eq entry.0.now x) (has reached entry.0.now) entry.1.now in
       rw (puts entry.0.now) (omega (arith, here, left-le entries))
 
+  -- what is left where the name is the first entry, or not
   left-first : (b : Bool) (entry : Bor (List ℕ) × Bor (List (List ℕ))) (found : Option (Bor (List (List ℕ)))) (entries : Entries)
-      → same_name x entry.0.now ≡ b → has reached x ≡ false → left entries after + length (names_or_none found) ≤ left entries reached
+      → bytes_eq x entry.0.now ≡ b → has reached x ≡ false → left entries after + length (names_or_none found) ≤ left entries reached
       → left (entry ∷ entries) after + length (names_or_none (cond b (Some entry.1) found)) ≤ left (entry ∷ entries) reached
   left-first true entry found entries is absent later =
       let same : x ≡ entry.0.now = same-from_true x entry.0.now is in

@@ -1,22 +1,22 @@
 -- The enabled traits of a package (SE-0450): the least set that has the traits that are asked, and what each of its
 -- members enables. A set is told by a test.
+use Rattle.std.specs.Str.{bytes_eq}
 use Rattle.std.specs.Prelude.{◌≡◌, ℕ, ◌||◌, List, [], ◌∷◌, Bool, true, false, codes, Contains, if◌then◌else◌}
 use Rattle.std.specs.Cmp.Lexicographic.{slice_cmp}
 use Rattle.std.specs.List.{list_any}
 use Rattle.std.specs.Ordering.{nat_cmp, is_le}
 use Rattle.std.specs.declared.cmp.Ordering.TheVariants.{Less}
-use Rattle.spm_trait.specs.TraitName.{same_name}
 use Rattle.spm_trait.specs.declared.traits.TraitEntry.{TraitEntry}
 
 -- what a trait of this name enables: what its entry says; the names of a manifest's entries are distinct, and else
 -- the first counts
 abbrev pub enabled_by : List TraitEntry → List ℕ → List (List ℕ)
 enabled_by [] name = []
-enabled_by (entry ∷ entries) name = if same_name entry.name name then entry.enables else enabled_by entries name
+enabled_by (entry ∷ entries) name = if bytes_eq entry.name name then entry.enables else enabled_by entries name
 
 -- the name of an entry, or `default`, which needs none
 abbrev pub is_declared : List TraitEntry → List ℕ → Bool
-is_declared entries name = same_name name (codes "default") || list_any (λ entry. same_name entry.name name) entries
+is_declared entries name = bytes_eq name (codes "default") || list_any (λ entry. bytes_eq entry.name name) entries
 
 -- a set that has the asked names, and what each of its members enables
 pub record IsClosed (entries : List TraitEntry) (asked : List (List ℕ)) (has : List ℕ → Bool) : Type 0 where
@@ -36,7 +36,7 @@ IsInOrder (name ∷ next ∷ names) = (slice_cmp nat_cmp name next ≡ Less) × 
 -- The names are the least set, in byte order, and each of them is declared.
 pub record IsClosure (entries : List TraitEntry) (asked names : List (List ℕ)) : Type 0 where
   -- it has the asked names, and what each of its members enables
-  pub closed : IsClosed entries asked (λ name. list_any (same_name name) names)
+  pub closed : IsClosed entries asked (λ name. list_any (bytes_eq name) names)
   -- it is below every such set
   pub least : (name : List ℕ) → Contains names name → IsInLeast entries asked name
   pub in_order : IsInOrder names

@@ -1,5 +1,6 @@
 -- What the steps of a closure say: an index of the entries, the names that are reached by it, and the first of them that
 -- isn't declared.
+use Rattle.std.specs.Str.{bytes_eq}
 use Rattle.std.specs.Prelude.{◌≡◌, ◌++◌, ℕ, ◌||◌, List, [], ◌∷◌, Bool, true, false, codes, is_some, map, All, Contains, Option, Some, None}
 use Rattle.std.specs.BTreeMap.{BTreeMap, get_by}
 use Rattle.std.specs.BTreeSet.{BTreeSet}
@@ -7,7 +8,6 @@ use Rattle.std.specs.Cmp.Lexicographic.{slice_cmp}
 use Rattle.std.specs.List.{list_any}
 use Rattle.std.specs.Ordering.{nat_cmp}
 use Rattle.std.specs.Borrow.{Bor}
-use Rattle.spm_trait.specs.TraitName.{same_name}
 use Rattle.spm_trait.specs.Closure.{IsInOrder, enabled_by}
 use Rattle.spm_trait.specs.declared.closures.ClosureFault.{ClosureFault}
 use Rattle.spm_trait.specs.declared.closures.ClosureFault.TheVariants.{Unknown, Memory}
@@ -30,12 +30,12 @@ enabled_in index name = names_or_none (found_in index name)
 
 -- a name of the index, or `default`
 abbrev pub is_declared_in : Index → List ℕ → Bool
-is_declared_in index name = same_name name (codes "default") || is_some (found_in index name)
+is_declared_in index name = bytes_eq name (codes "default") || is_some (found_in index name)
 
 -- the index answers as the entries do
 pub record IsIndex (entries : List TraitEntry) (index : Index) : Type 0 where
   pub enabled : (name : List ℕ) → enabled_in index name ≡ enabled_by entries name
-  pub named : (name : List ℕ) → is_some (found_in index name) ≡ list_any (λ entry. same_name entry.name name) entries
+  pub named : (name : List ℕ) → is_some (found_in index name) ≡ list_any (λ entry. bytes_eq entry.name name) entries
 
 -- the names of a list and of a set
 abbrev pub names_of : List (Bor (List ℕ)) → List (List ℕ)
@@ -55,7 +55,7 @@ IsInLeastBy enables asked name = (has : List ℕ → Bool) → IsClosedBy enable
 
 -- the least such set, in byte order
 pub record IsReached (enables : List ℕ → List (List ℕ)) (asked names : List (List ℕ)) : Type 0 where
-  pub closed : IsClosedBy enables asked (λ name. list_any (same_name name) names)
+  pub closed : IsClosedBy enables asked (λ name. list_any (bytes_eq name) names)
   pub least : (name : List ℕ) → Contains names name → IsInLeastBy enables asked name
   pub in_order : IsInOrder names
 

@@ -1,8 +1,8 @@
 -- Trait names (SE-0450, with the characters of Swift identifiers): the first character is XID_Start, `_` or
 -- an ASCII digit, the others are XID_Continue, `-`, `+` or `.`. The name `defaults` is reserved.
-use Rattle.std.specs.Prelude.{◌≡◌, ℕ, ◌+◌, ◌==◌, ◌||◌, List, [], ◌∷◌, length, Bool, codes, nat_eq, Option, Some, None, Result, Ok, Err, if◌then◌else◌}
+use Rattle.std.specs.Str.{bytes_eq}
+use Rattle.std.specs.Prelude.{◌≡◌, ℕ, ◌+◌, ◌==◌, ◌||◌, List, [], ◌∷◌, length, Bool, codes, Option, Some, None, Result, Ok, Err, if◌then◌else◌}
 use Rattle.std.specs.Char.{is_ascii_digit}
-use Rattle.std.specs.Cmp.Lexicographic.{pointwise}
 use Rattle.std.specs.Str.{chars}
 use Rattle.unicode_ident.specs.Ident.{is_xid_continue, is_xid_start}
 use Rattle.spm_trait.specs.declared.trait_name.TraitFault.{TraitFault}
@@ -28,14 +28,11 @@ abbrev pub unless_bad : List ℕ → Option ℕ → Result (List ℕ) TraitFault
 unless_bad text None = Ok text
 unless_bad text (Some place) = Err (BadChar place)
 
-abbrev pub same_name : List ℕ → List ℕ → Bool
-same_name first second = pointwise nat_eq first second
-
 -- the name that a text is, or the first of its faults
 abbrev pub trait_name_of : List ℕ → Result (List ℕ) TraitFault
 trait_name_of text =
     if length text == 0 then Err Empty
-    else if same_name text (codes "defaults") then Err Reserved
+    else if bytes_eq text (codes "defaults") then Err Reserved
     else unless_bad text (first_bad (chars text))
 
 -- a text that is a trait's name

@@ -1,10 +1,19 @@
 ghost use Rattle.std.specs.Prelude.{◌≡◌, ◌++◌, IfErr, IfOk, OnOk};
 ghost use Rattle.spm_trait.specs.Closure.{IsClosure};
 ghost use Rattle.spm_trait.specs.ClosureFault.{IsClosureFault};
-ghost use Rattle.spm_trait.specs.Reached.{AreDeclaredCopies, IsIndex, IsReached, IsUndeclaredFault, enabled_in, is_declared_in, names_in, names_of};
+ghost use Rattle.spm_trait.specs.Reached.{
+  AreDeclaredCopies,
+  IsIndex,
+  IsReached,
+  IsUndeclaredFault,
+  enabled_in,
+  is_declared_in,
+  names_in,
+  names_of,
+};
 ghost use Rattle.spm_trait.specs.declared.closures.ClosureFault.TheVariants.{Memory};
 
-use crate::memory::NoMemory;
+use crate::NoMemory;
 use crate::trait_name::TraitName;
 use crate::traits::{TraitEntry, Traits};
 use std::alloc::{AllocError, AllocFailed, Global};
@@ -24,6 +33,22 @@ pub enum ClosureFault {
     Memory,
 }
 
+impl ClosureFault {
+    /// A copy of the fault.
+    ///
+    /// # Errors
+    ///
+    /// `NoMemory` alone.
+    pub fn copy(&self, alloc: Global) -> Result<ClosureFault, NoMemory>
+        ensures { IfOk result (λ fault. fault ≡ self.now) }
+    {
+        match self {
+            ClosureFault::Unknown(name) => Ok(ClosureFault::Unknown(name.copy(alloc)?)),
+            ClosureFault::Memory => Ok(ClosureFault::Memory),
+        }
+    }
+}
+
 impl fmt::Display for ClosureFault {
     fn fmt<W: fmt::Write>(&self, f: &mut fmt::Formatter<W>) -> fmt::Result {
         match self {
@@ -34,14 +59,6 @@ impl fmt::Display for ClosureFault {
 }
 
 impl Error for ClosureFault {}
-
-impl From<NoMemory> for ClosureFault {
-    ghost from_gives = { λ _ e. e ≡ Memory };
-
-    fn from(_error: NoMemory) -> ClosureFault {
-        ClosureFault::Memory
-    }
-}
 
 impl From<AllocError> for ClosureFault {
     ghost from_gives = { λ _ e. e ≡ Memory };
@@ -59,7 +76,7 @@ impl<T: Drop> From<AllocFailed<T>> for ClosureFault {
     }
 }
 
-/// What the traits of each name enable, by the name. It goes from the back, so that the first entry of a name stays.
+// What the traits of each name enable, by the name. It goes from the back, so that the first entry of a name stays.
 fn index_of<'a>(
     alloc: Global,
     entries: &'a [TraitEntry],
@@ -73,7 +90,7 @@ fn index_of<'a>(
     Ok(index)
 }
 
-/// What the trait of a name enables.
+// What the trait of a name enables.
 fn enabled<'a>(
     index: &BTreeMap<&'a TraitName, &'a [TraitName]>,
     name: &'a TraitName,
@@ -86,14 +103,14 @@ fn enabled<'a>(
     }
 }
 
-/// Whether a trait of this name is declared.
+// Whether a trait of this name is declared.
 fn is_declared<'a>(index: &BTreeMap<&'a TraitName, &'a [TraitName]>, name: &'a TraitName) -> bool
     ensures { result ≡ is_declared_in index.now name.now }
 {
     name.text() == DEFAULT || index.contains_key(&name)
 }
 
-/// Puts more names behind those that wait.
+// Puts more names behind those that wait.
 fn push_all<'a>(waiting: &mut Vec<&'a TraitName>, more: &'a [TraitName]) -> Result<(), NoMemory>
     ensures { OnOk result (names_of waiting.new.items ≡ names_of waiting.old.items ++ more.now) }
 {
@@ -103,7 +120,7 @@ fn push_all<'a>(waiting: &mut Vec<&'a TraitName>, more: &'a [TraitName]) -> Resu
     Ok(())
 }
 
-/// The least set that has the asked names and what each of its members enables.
+// The least set that has the asked names and what each of its members enables.
 fn reached<'a>(
     alloc: Global,
     index: &BTreeMap<&'a TraitName, &'a [TraitName]>,
@@ -123,7 +140,7 @@ fn reached<'a>(
     Ok(names)
 }
 
-/// Copies of the names, in their order, or the first of them that is not declared.
+// Copies of the names, in their order, or the first of them that is not declared.
 fn declared_copies<'a>(
     alloc: Global,
     index: &BTreeMap<&'a TraitName, &'a [TraitName]>,
@@ -145,7 +162,9 @@ fn declared_copies<'a>(
 
 /// The least set of traits that has the asked names and what each of its members enables, in byte order (SE-0450).
 ///
-/// Where one of them is not declared, the answer is [`ClosureFault::Unknown`] with the least such name.
+/// # Errors
+///
+/// `Unknown` exactly where one of them is not declared, with the least such name; and `Memory`.
 pub fn closure(
     alloc: Global,
     traits: &Traits,

@@ -21,13 +21,12 @@
 #![tactic(auto)]
 
 mod closures;
-mod listed;
-mod memory;
+mod shared;
 mod trait_name;
 mod traits;
 
 pub use closures::{ClosureFault, closure};
-pub use listed::Listed;
-pub use memory::NoMemory;
 pub use trait_name::{TraitFault, TraitName};
 pub use traits::{TraitEntry, Traits};
+/// There was no memory for what a call had to make: the one fault of what only allocates.
+pub use std::alloc::AllocError as NoMemory;

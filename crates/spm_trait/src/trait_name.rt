@@ -1,14 +1,15 @@
-ghost use Rattle.std.specs.Prelude.{◌≡◌, ◌≢◌, IfErr, IfOk, Some, nat_eq, refl};
+ghost use Rattle.std.specs.Str.{bytes_eq};
+ghost use Rattle.std.specs.Prelude.{◌≡◌, ◌≢◌, IfErr, IfOk, Some, refl};
 ghost use Rattle.std.specs.Ordering.{nat_cmp};
 ghost use Rattle.std.specs.Cmp.{partial_equiv_from_equiv};
-ghost use Rattle.std.specs.Cmp.Lexicographic.{pointwise, slice_cmp, nat_list_eq_equiv, nat_list_cmp_total, texts_ties, texts_po};
+ghost use Rattle.std.specs.Cmp.Lexicographic.{slice_cmp, nat_list_eq_equiv, nat_list_cmp_total, texts_ties, texts_po};
 ghost use Rattle.std.specs.Str.{chars};
 ghost use Rattle.spm_trait.specs.declared.trait_name.TraitFault.TheVariants.{Memory};
 ghost use Rattle.spm_trait.specs.Stands.{stands};
 ghost use Rattle.spm_trait.specs.TraitName.{IsTraitName, begins_trait, continues_trait, first_bad, trait_name_of};
 
-use crate::listed::Duplicate;
-use crate::memory::NoMemory;
+use crate::NoMemory;
+use spm_version::Duplicate;
 use std::alloc::{AllocError, Global};
 use std::cmp::Ordering;
 use std::error::Error;
@@ -44,14 +45,6 @@ impl fmt::Display for TraitFault {
 
 impl Error for TraitFault {}
 
-impl From<NoMemory> for TraitFault {
-    ghost from_gives = { λ _ e. e ≡ Memory };
-
-    fn from(_error: NoMemory) -> TraitFault {
-        TraitFault::Memory
-    }
-}
-
 impl From<AllocError> for TraitFault {
     ghost from_gives = { λ _ e. e ≡ Memory };
 
@@ -60,21 +53,21 @@ impl From<AllocError> for TraitFault {
     }
 }
 
-/// Whether a trait's name may begin with the character.
+// Whether a trait's name may begin with the character.
 fn begins_trait(ch: char) -> bool
     ensures { result ≡ begins_trait ch }
 {
     unicode_ident::is_xid_start(ch) || ch == '_' || ch.is_ascii_digit()
 }
 
-/// Whether the character may stand behind others in a trait's name.
+// Whether the character may stand behind others in a trait's name.
 fn continues_trait(ch: char) -> bool
     ensures { result ≡ continues_trait ch }
 {
     unicode_ident::is_xid_continue(ch) || ch == '-' || ch == '+' || ch == '.'
 }
 
-/// Whether the character may stand at a place of a trait's name.
+// Whether the character may stand at a place of a trait's name.
 fn stands(place: usize, ch: char) -> bool
     ensures { result ≡ stands place ch }
 {
@@ -85,7 +78,7 @@ fn stands(place: usize, ch: char) -> bool
     }
 }
 
-/// The number, from 0, of the first character that may not stand where it does.
+// The number, from 0, of the first character that may not stand where it does.
 fn first_bad(text: &str) -> Option<usize>
     ensures { result ≡ first_bad (chars text.now) }
 {
@@ -118,6 +111,10 @@ impl Model for TraitName {
 impl TraitName {
     /// Reads a trait's name. The first character is XID_Start, `_` or an ASCII digit, the others are XID_Continue, `-`,
     /// `+` or `.`; `defaults` is reserved.
+    ///
+    /// # Errors
+    ///
+    /// The first of the faults of the text; and `Memory`, which no text that is refused gets.
     pub fn parse(alloc: Global, text: &str) -> Result<TraitName, TraitFault>
         ensures ok { IfOk result (λ name. trait_name_of text.now ≡ Ok name) }
         ensures err { IfErr result (λ e. e ≢ TraitFault.Memory → trait_name_of text.now ≡ Err e) }
@@ -146,6 +143,10 @@ impl TraitName {
     }
 
     /// A copy of the name.
+    ///
+    /// # Errors
+    ///
+    /// `NoMemory` alone.
     pub fn copy(&self, alloc: Global) -> Result<TraitName, NoMemory>
         ensures { IfOk result (λ name. name ≡ self.now) }
     {
@@ -170,7 +171,7 @@ impl fmt::Display for TraitName {
 
 /// By the bytes of the text.
 impl PartialEq for TraitName {
-    ghost eq = { pointwise nat_eq };
+    ghost eq = { bytes_eq };
 
     ghost laws = { partial_equiv_from_equiv nat_list_eq_equiv };
 

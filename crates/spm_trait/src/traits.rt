@@ -1,19 +1,23 @@
 ghost use Rattle.std.specs.Prelude.{◌≡◌, IfOk};
 
-use crate::listed::{Duplicate, Listed};
-use crate::memory::NoMemory;
+use crate::NoMemory;
 use crate::trait_name::TraitName;
+use spm_version::{Duplicate, Items};
 use std::alloc::Global;
 
 /// A declared trait, and the traits that it enables.
 #[derive(Debug, Drop)]
 pub struct TraitEntry {
     pub name: TraitName,
-    pub enables: Listed<TraitName>,
+    pub enables: Items<TraitName>,
 }
 
 impl TraitEntry {
     /// A copy of the entry.
+    ///
+    /// # Errors
+    ///
+    /// `NoMemory` alone.
     pub fn copy(&self, alloc: Global) -> Result<TraitEntry, NoMemory>
         ensures { IfOk result (λ entry. entry ≡ self.now) }
     {
@@ -34,11 +38,15 @@ impl Duplicate for TraitEntry {
 /// without an entry.
 #[derive(Debug, Drop)]
 pub struct Traits {
-    pub entries: Listed<TraitEntry>,
+    pub entries: Items<TraitEntry>,
 }
 
 impl Traits {
     /// A copy of the traits.
+    ///
+    /// # Errors
+    ///
+    /// `NoMemory` alone.
     pub fn copy(&self, alloc: Global) -> Result<Traits, NoMemory>
         ensures { IfOk result (λ traits. traits ≡ self.now) }
     {

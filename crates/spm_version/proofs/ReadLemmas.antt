@@ -17,9 +17,11 @@ use Rattle.spm_version.specs.declared.release.VersionFault.TheVariants.{BadVersi
 pub record TakesNoMemory {A : Type 0} (found : Result A Error) : Type 0 where
   pub kinds : IfErr found (λ e. is_memory e.kind ≡ false)
 
+-- what was read is no want of memory
 read : {A : Type 0} (x : A) → TakesNoMemory {A = A} (Ok x)
 read x = record { kinds = tt }
 
+-- a fault of another kind is no want of memory
 failed : {A : Type 0} (k : ErrorKind) → is_memory k ≡ false → TakesNoMemory {A = A} (fail k)
 failed k h = record { kinds = h }
 
@@ -33,14 +35,17 @@ choice : {A : Type 0} (b : Bool) (r s : Result A Error) → TakesNoMemory r → 
 choice true r s h k = h
 choice false r s h k = k
 
+-- what an end that isn't one is told as takes no memory
 end_error-no_memory : (pos : Position) (text : List ℕ) → TakesNoMemory (end_error pos text)
 end_error-no_memory pos [] = failed _ refl
 end_error-no_memory pos (b ∷ rest) = failed _ refl
 
+-- neither does the end of a number's digits
 digits_end-no_memory : (pos : Position) (value len : ℕ) (rest : List ℕ) → TakesNoMemory (digits_end pos value len rest)
 digits_end-no_memory pos value len rest =
     choice (nat_lt 0 len) (Ok (value, rest)) (end_error pos rest) (read (value, rest)) (end_error-no_memory pos rest)
 
+-- nor do the digits of a number
 digits_from-no_memory : (pos : Position) (value len : ℕ) (text : List ℕ) → TakesNoMemory (digits_from pos value len text)
 unfolding digits_from
 digits_from-no_memory pos value len [] = digits_end-no_memory pos value len []
@@ -51,15 +56,18 @@ digits_from-no_memory pos value len (b ∷ rest) =
     (digits_from-no_memory pos (value * 10 + (b - 48)) (len + 1) rest)))
     (digits_end-no_memory pos value len (b ∷ rest))
 
+-- nor does a dot
 dot_of-no_memory : (pos : Position) (text : List ℕ) → TakesNoMemory (dot_of pos text)
 dot_of-no_memory pos [] = failed _ refl
 dot_of-no_memory pos (b ∷ rest) = choice (b == 46) _ _ (read rest) (failed _ refl)
 
+-- nor does the end of a part of an identifier
 part_end-no_memory : (pos : Position) (acc seg : ℕ) (nondigit lead : Bool) → TakesNoMemory (part_end pos acc seg nondigit lead)
 part_end-no_memory pos acc seg nondigit lead =
     choice (seg == 0) _ _ (choice (acc == 0) _ _ (read 0) (failed _ refl))
     (choice (is_bad_zero pos seg nondigit lead) _ _ (failed _ refl) (read (acc + seg)))
 
+-- nor do the bytes of an identifier
 scan-no_memory : (pos : Position) (acc seg : ℕ) (nondigit lead : Bool) (text : List ℕ) → TakesNoMemory (scan pos acc seg nondigit lead text)
 unfolding scan
 scan-no_memory pos acc seg nondigit lead [] = part_end-no_memory pos acc seg nondigit lead
@@ -72,15 +80,18 @@ scan-no_memory pos acc seg nondigit lead (b ∷ rest) =
     (scan-no_memory pos (acc + seg + 1) 0 false false rest)))
     (part_end-no_memory pos acc seg nondigit lead)))
 
+-- nor does an identifier
 identifier_of-no_memory : (pos : Position) (text : List ℕ) → TakesNoMemory (identifier_of pos text)
 identifier_of-no_memory pos text =
     chain (identifier_len pos text) _ (scan-no_memory pos 0 0 false false text)
     (λ n. choice (n == 0) _ _ (failed _ refl) (read (take n text, drop n text)))
 
+-- nor does the end of a version
 tail_end-no_memory : (pos : Position) (major minor patch : ℕ) (pre build text : List ℕ) → TakesNoMemory (tail_end pos major minor patch pre build text)
 tail_end-no_memory pos major minor patch pre build [] = read (major, minor, patch, pre, build)
 tail_end-no_memory pos major minor patch pre build (b ∷ rest) = failed _ refl
 
+-- nor does what stands from the build on
 tail_build-no_memory : (pos : Position) (major minor patch : ℕ) (pre text : List ℕ) → TakesNoMemory (tail_build pos major minor patch pre text)
 tail_build-no_memory pos major minor patch pre [] = tail_end-no_memory pos major minor patch pre [] []
 tail_build-no_memory pos major minor patch pre (b ∷ rest) =
@@ -89,6 +100,7 @@ tail_build-no_memory pos major minor patch pre (b ∷ rest) =
     (λ x. tail_end-no_memory place.Build major minor patch pre x.0 x.1))
     (tail_end-no_memory pos major minor patch pre [] (b ∷ rest))
 
+-- nor does what stands behind the three numbers
 tail_pre-no_memory : (major minor patch : ℕ) (text : List ℕ) → TakesNoMemory (tail_pre major minor patch text)
 tail_pre-no_memory major minor patch [] = tail_build-no_memory place.Patch major minor patch [] []
 tail_pre-no_memory major minor patch (b ∷ rest) =
@@ -97,6 +109,7 @@ tail_pre-no_memory major minor patch (b ∷ rest) =
     (λ x. tail_build-no_memory place.Pre major minor patch x.0 x.1))
     (tail_build-no_memory place.Patch major minor patch [] (b ∷ rest))
 
+-- so no text is refused for want of memory
 pub version_parts-no_memory : (text : List ℕ) → TakesNoMemory (version_parts text)
 version_parts-no_memory text =
     choice (length text == 0) _ _ (failed _ refl)

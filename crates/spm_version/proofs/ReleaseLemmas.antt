@@ -33,9 +33,9 @@ same_parts first second first_valid second_valid same =
     let read = ap version_parts same in
     cc
 
--- the same parts have one text
-same_texts : (first second : Parts) → release_eq first second ≡ true → parts_text first ≡ parts_text second
-same_texts first second h =
+-- parts that `==` doesn't tell apart are the same
+pub same_release : (first second : Parts) → release_eq first second ≡ true → first ≡ second
+same_release first second h =
     let after_major = second_so _ _ h in
     let after_minor = second_so _ _ after_major in
     let after_patch = second_so _ _ after_minor in
@@ -44,10 +44,10 @@ same_texts first second h =
     let patch : first.2 ≡ second.2 = eqb-true _ _ (first_so _ _ after_minor) in
     let pre : first.3 ≡ second.3 = same_text _ _ (first_so _ _ after_patch) in
     let build : first.4 ≡ second.4 = same_text _ _ (second_so _ _ after_patch) in
-    rw (major, minor, patch, pre, build) refl
+    λ i. (major i, minor i, patch i, pre i, build i)
 
 -- of valid parts, `==` compares the texts
 pub release_eq-texts : (first second : Parts) → IsValid first → IsValid second → release_eq first second ≡ pointwise nat_eq (parts_text first) (parts_text second)
 release_eq-texts first second first_valid second_valid = both_ways _ _
-    (λ h. rw (same_texts first second h) (nat_list_eq_equiv.refl (parts_text second)))
+    (λ h. rw (same_release first second h) (nat_list_eq_equiv.refl (parts_text second)))
     (λ h. rw (same_parts first second first_valid second_valid (same_text _ _ h)) (release_equiv.refl second))

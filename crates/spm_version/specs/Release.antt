@@ -1,6 +1,7 @@
 -- A release is a version of SemVer 2.0 with numbers of 64 bits. `semver` sees it as five parts: the three
 -- numbers, the pre-release and the build metadata.
-use Rattle.std.specs.Prelude.{◌≡◌, ℕ, List, length, Bool, nat_lt, Option}
+use Rattle.std.specs.Prelude.{◌≡◌, ℕ, List, length, codes, Bool, nat_eq, nat_lt, Option}
+use Rattle.std.specs.List.{ends_with}
 use Rattle.std.specs.Ordering.{nat_cmp, ordering_then}
 use Rattle.std.specs.Result.{result_ok}
 use Rattle.std.specs.declared.cmp.Ordering.{Ordering}
@@ -25,3 +26,7 @@ is_prerelease parts = nat_lt 0 (length parts.3)
 abbrev pub precedence : Parts → Parts → Ordering
 precedence first second = ordering_then (nat_cmp first.0 second.0) (ordering_then (nat_cmp first.1 second.1)
     (ordering_then (nat_cmp first.2 second.2) (pre_cmp first.3 second.3)))
+
+-- a text whose path is that of an archive, if it is the last of a path
+abbrev pub ends_in_zip : List ℕ → Bool
+ends_in_zip text = ends_with nat_eq text (codes ".zip")

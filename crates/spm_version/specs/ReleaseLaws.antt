@@ -1,9 +1,10 @@
 -- The order of all releases: by the three numbers, by the pre-release, and then by the build metadata,
 -- as Cargo's `semver` orders them. It tells apart what differs in any part, and agrees with precedence
 -- where that tells two apart.
-use Rattle.std.specs.Prelude.{◌≡◌, ◌==◌, ◌&&◌, Bool, Some, nat_eq}
+use Rattle.std.specs.Str.{bytes_eq}
+use Rattle.std.specs.Prelude.{◌≡◌, ◌==◌, ◌&&◌, Bool, Some}
 use Rattle.std.specs.Cmp.{IsEquivalence, IsPartialOrder, IsTotalOrder, and_equiv, both_tied, nat_cmp_total, nat_eq_equiv, on_equiv, on_total, po, then_total, unsigned_ties}
-use Rattle.std.specs.Cmp.Lexicographic.{nat_list_eq_equiv, pointwise}
+use Rattle.std.specs.Cmp.Lexicographic.{nat_list_eq_equiv}
 use Rattle.std.specs.Ordering.{eq_by_cmp, nat_cmp, ordering_then}
 use Rattle.std.specs.declared.cmp.Ordering.{Ordering}
 use Rattle.semver.specs.Order.{build_cmp, pre_cmp}
@@ -13,7 +14,7 @@ use Rattle.spm_version.specs.Release.{Parts}
 -- the same parts
 abbrev pub release_eq : Parts → Parts → Bool
 release_eq first second = first.0 == second.0 && (first.1 == second.1 && (first.2 == second.2
-    && (pointwise nat_eq first.3 second.3 && pointwise nat_eq first.4 second.4)))
+    && (bytes_eq first.3 second.3 && bytes_eq first.4 second.4)))
 
 -- the order by all parts
 abbrev pub release_cmp : Parts → Parts → Ordering

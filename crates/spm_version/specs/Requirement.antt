@@ -1,7 +1,7 @@
 -- Which releases a requirement contains (SemVer 2.0 section 11, and SwiftPM's rule for pre-releases in
 -- ranges), and their places in a list.
-use Rattle.std.specs.Prelude.{ℕ, ◌+◌, ◌==◌, ◌&&◌, ◌||◌, List, [], ◌∷◌, Bool, false, not, nat_eq, IsTrue, if◌then◌else◌}
-use Rattle.std.specs.Cmp.Lexicographic.{pointwise}
+use Rattle.std.specs.Str.{bytes_eq}
+use Rattle.std.specs.Prelude.{ℕ, ◌+◌, ◌==◌, ◌&&◌, ◌||◌, List, [], ◌∷◌, Bool, false, not, IsTrue, if◌then◌else◌}
 use Rattle.std.specs.Ordering.{is_lt, is_ge}
 use Rattle.spm_version.specs.Release.{Parts, is_prerelease, parts_text, precedence}
 use Rattle.spm_version.specs.declared.requirement.Requirement.{Requirement}
@@ -22,7 +22,7 @@ abbrev pub is_between : Parts → Parts → Parts → Bool
 is_between low high release = is_ge (precedence release low) && is_lt (precedence release high)
 
 abbrev pub contains : Requirement → Parts → Bool
-contains (Exact exact) release = pointwise nat_eq (parts_text exact) (parts_text release)
+contains (Exact exact) release = bytes_eq (parts_text exact) (parts_text release)
 contains (Range low high) release = (not (is_prerelease release) || allows_prerelease low high release) && is_between low high release
 contains (Branch name) release = false
 contains (Revision name) release = false

@@ -1,6 +1,6 @@
 ghost use Rattle.std.specs.Prelude.{◌≡◌, [], ◌∷◌, ◌++◌, IfOk, OnErr, OnOk};
 
-use crate::memory::NoMemory;
+use crate::NoMemory;
 use std::alloc::Global;
 use std::marker::Model;
 
@@ -65,6 +65,10 @@ impl<X> Items<X> {
 
 impl<X: Drop> Items<X> {
     /// Puts `x` behind the others, or drops it where memory runs out.
+    ///
+    /// # Errors
+    ///
+    /// `NoMemory` alone.
     pub fn push(&mut self, x: X) -> Result<(), NoMemory>
         ensures ok { OnOk result (self.new ≡ self.old ++ x ∷ []) }
         ensures err { OnErr result (self.new ≡ self.old) }
@@ -76,6 +80,10 @@ impl<X: Drop> Items<X> {
 
 impl<X: Duplicate + Drop> Items<X> {
     /// A copy of the list and of each of its items.
+    ///
+    /// # Errors
+    ///
+    /// `NoMemory` alone.
     pub fn copy(&self, alloc: Global) -> Result<Items<X>, NoMemory>
         ensures { IfOk result (λ s. s ≡ self.now) }
     {

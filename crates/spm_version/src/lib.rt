@@ -19,17 +19,18 @@
 mod bytes;
 mod items;
 mod kind;
-mod memory;
 mod release;
 mod requirement;
+mod shared;
 mod text;
 mod tools_version;
 
 pub use crate::bytes::Bytes;
 pub use crate::items::{Duplicate, Items};
 pub use crate::kind::Kind;
-pub use crate::memory::NoMemory;
-pub use crate::release::{Release, VersionFault, release_grammar};
+pub use crate::release::{Release, VersionFault, ends_in_zip, release_grammar};
 pub use crate::requirement::{Requirement, ranks};
 pub use crate::text::Text;
 pub use crate::tools_version::ToolsVersion;
+/// There was no memory for what a call had to make: the one fault of what only allocates.
+pub use std::alloc::AllocError as NoMemory;

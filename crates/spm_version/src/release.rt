@@ -1,13 +1,22 @@
-ghost use Rattle.std.specs.Prelude.{◌≡◌, ℕ, List, length, Ok, Some, None, IfOk, IsOk, IsErrOf, ◌↔◌, nat_eq, refl, if◌then◌else◌};
+ghost use Rattle.std.specs.Str.{bytes_eq};
+ghost use Rattle.std.specs.Prelude.{◌≡◌, ℕ, List, length, Ok, Some, None, IfOk, IsOk, IsErrOf, ◌↔◌, refl, if◌then◌else◌};
 ghost use Rattle.std.specs.Cmp.{partial_equiv_from_equiv};
-ghost use Rattle.std.specs.Cmp.Lexicographic.{pointwise};
 ghost use Rattle.semver.specs.Parse.{is_memory};
-ghost use Rattle.spm_version.specs.Release.{Parts, Spells, is_prerelease, parts_text, precedence, release_of};
+ghost use Rattle.spm_version.specs.Release.{
+  IsValid,
+  Parts,
+  Spells,
+  ends_in_zip,
+  is_prerelease,
+  parts_text,
+  precedence,
+  release_of,
+};
 ghost use Rattle.spm_version.specs.ReleaseLaws.{release_cmp, release_eq, release_equiv, release_po, release_ties, release_total};
 ghost use Rattle.spm_version.specs.declared.release.VersionFault.TheVariants.{Memory};
 
+use crate::NoMemory;
 use crate::items::Duplicate;
-use crate::memory::NoMemory;
 use crate::text::Text;
 use semver::Version;
 use std::alloc::{AllocError, AllocFailed, Global};
@@ -35,14 +44,6 @@ impl fmt::Display for VersionFault {
 }
 
 impl Error for VersionFault {}
-
-impl From<NoMemory> for VersionFault {
-    ghost from_gives = { λ _ fault. fault ≡ Memory };
-
-    fn from(_e: NoMemory) -> VersionFault {
-        VersionFault::Memory
-    }
-}
 
 impl From<AllocError> for VersionFault {
     ghost from_gives = { λ _ fault. fault ≡ Memory };
@@ -111,11 +112,34 @@ impl Release {
     }
 
     /// The release as it is spelled. No other release is spelled so.
+    ///
+    /// # Errors
+    ///
+    /// `NoMemory` alone.
     pub fn text(&self, alloc: Global) -> Result<Text, NoMemory>
         ensures { IfOk result (λ t. t ≡ parts_text self.now) }
     {
         let string = self.version.to_string(alloc)?;
         Ok(Text::from_string(string))
+    }
+
+    /// Whether its text ends in `.zip`, as the path of an archive does.
+    ///
+    /// # Errors
+    ///
+    /// `NoMemory` alone.
+    pub fn ends_in_zip(&self, alloc: Global) -> Result<bool, NoMemory>
+        ensures { IfOk result (λ ends. ends ≡ ends_in_zip (parts_text self.now)) }
+    {
+        let text = self.text(alloc)?;
+        Ok(ends_in_zip(text.as_str()))
+    }
+
+    /// A law, with nothing to run: each release has parts of the grammar of SemVer 2.0.
+    pub fn is_valid(&self)
+        ensures { IsValid self.now }
+    {
+        let _ = &self.version;
     }
 
     /// Whether it has a pre-release (section 9).
@@ -134,7 +158,7 @@ impl Release {
 
     /// Whether the two are spelled alike, build metadata included.
     pub fn has_text(&self, other: &Release) -> bool
-        ensures { result ≡ pointwise nat_eq (parts_text self.now) (parts_text other.now) }
+        ensures { result ≡ bytes_eq (parts_text self.now) (parts_text other.now) }
     {
         self.version == other.version
     }
@@ -147,12 +171,23 @@ impl Release {
     }
 
     /// A copy of the release.
+    ///
+    /// # Errors
+    ///
+    /// `NoMemory` alone.
     pub fn copy(&self, alloc: Global) -> Result<Release, NoMemory>
         ensures { IfOk result (λ r. r ≡ self.now) }
     {
         let version = self.version.clone()?;
         Ok(Release { version })
     }
+}
+
+/// Whether a text ends in `.zip`.
+pub fn ends_in_zip(text: &str) -> bool
+    ensures { result ≡ ends_in_zip text.now }
+{
+    text.as_bytes().ends_with(b".zip")
 }
 
 /// A law, with nothing to run: what is read as a release is exactly what the grammar of SemVer 2.0 spells.

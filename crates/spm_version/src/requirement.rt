@@ -1,14 +1,14 @@
 ghost use Rattle.std.specs.Prelude.{◌≡◌, ◌≤◌, length, IfOk};
 ghost use Rattle.spm_version.specs.Requirement.{allows_prerelease, contains, is_between, ranks_of};
 
+use crate::NoMemory;
 use crate::items::Duplicate;
-use crate::memory::NoMemory;
 use crate::release::Release;
 use crate::text::Text;
 use std::alloc::Global;
 
 /// What a manifest asks of the releases of a package.
-#[derive(Debug, Drop)]
+#[derive(Debug, PartialEq, Eq, Drop)]
 pub enum Requirement {
     /// One release, by its text.
     Exact(Release),
@@ -39,6 +39,10 @@ impl Requirement {
     }
 
     /// A copy of the requirement.
+    ///
+    /// # Errors
+    ///
+    /// `NoMemory` alone.
     pub fn copy(&self, alloc: Global) -> Result<Requirement, NoMemory>
         ensures { IfOk result (λ r. r ≡ self.now) }
     {

@@ -1,10 +1,11 @@
-ghost use Rattle.std.specs.Prelude.{◌≡◌, ℕ, List, Some, IfOk, nat_eq, string_bytes, refl};
+ghost use Rattle.std.specs.Str.{bytes_eq};
+ghost use Rattle.std.specs.Prelude.{◌≡◌, ℕ, List, Some, IfOk, string_bytes, refl};
 ghost use Rattle.std.specs.Ordering.{nat_cmp};
 ghost use Rattle.std.specs.Cmp.{partial_equiv_from_equiv};
-ghost use Rattle.std.specs.Cmp.Lexicographic.{pointwise, slice_cmp, nat_list_eq_equiv, nat_list_cmp_total, texts_ties, texts_po};
+ghost use Rattle.std.specs.Cmp.Lexicographic.{slice_cmp, nat_list_eq_equiv, nat_list_cmp_total, texts_ties, texts_po};
 
+use crate::NoMemory;
 use crate::items::Duplicate;
-use crate::memory::NoMemory;
 use std::alloc::Global;
 use std::cmp::Ordering;
 use std::fmt;
@@ -38,6 +39,10 @@ impl Text {
     }
 
     /// A copy of the text.
+    ///
+    /// # Errors
+    ///
+    /// `NoMemory` alone.
     pub fn from_str(alloc: Global, text: &str) -> Result<Text, NoMemory>
         ensures { IfOk result (λ t. t ≡ text.now) }
     {
@@ -53,6 +58,10 @@ impl Text {
     }
 
     /// A copy of the text.
+    ///
+    /// # Errors
+    ///
+    /// `NoMemory` alone.
     pub fn copy(&self, alloc: Global) -> Result<Text, NoMemory>
         ensures { IfOk result (λ t. t ≡ self.now) }
     {
@@ -75,7 +84,7 @@ impl fmt::Display for Text {
 }
 
 impl PartialEq for Text {
-    ghost eq = { pointwise nat_eq };
+    ghost eq = { bytes_eq };
 
     ghost laws = { partial_equiv_from_equiv nat_list_eq_equiv };
 

@@ -9,11 +9,14 @@
 //! - one run of each call that can answer want of memory, where there is memory;
 //! - the printed texts.
 //!
-//! A test is a loop over a table of cases, or a few calls in a row.
+//! A test is a loop over a table of cases, a line `CASE => WANTED` each, or a few calls in a row. `support` has what the tests
+//! share.
 #![tactic(auto)]
 
 #[cfg(test)]
 mod ident;
+#[cfg(test)]
+mod support;
 #[cfg(test)]
 mod traits;
 #[cfg(test)]

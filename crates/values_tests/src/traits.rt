@@ -1,78 +1,70 @@
-use spm_trait::{
-    ClosureFault, Listed, NoMemory, TraitEntry, TraitFault, TraitName, Traits, closure,
-};
+use crate::support::{assert_text, sides, sign};
+use spm_trait::{ClosureFault, TraitEntry, TraitFault, TraitName, Traits, closure};
+use spm_version::Items;
 use std::alloc::Global;
-use std::cmp::Ordering;
 use std::test::Fail;
 
-#[test]
-fn names_of_traits_are_read(rt: HostRuntime) {
-    for text in [
-        "default", "D", "1x", "_x", "x-y+z.w", "é", "défaut", "Defaults",
-    ] {
-        let name = TraitName::parse(rt.alloc(), text).expect(&rt, text);
-        assert_eq!(rt; name.text(), text);
+// What a text is read as: how a copy of the name prints, or its fault.
+fn reading(alloc: Global, text: &str) -> Result<String, Fail> {
+    match TraitName::parse(alloc, text) {
+        Ok(name) => Ok(name.copy(alloc)?.to_string(alloc)?),
+        Err(fault) => Ok(fault.to_string(alloc)?),
     }
 }
 
+// A combining accent continues an identifier, and starts none.
+fn readings() -> &'static str {
+    "default => default
+D => D
+1x => 1x
+_x => _x
+x-y+z.w => x-y+z.w
+é => é
+défaut => défaut
+Defaults => Defaults
+ => empty name
+defaults => reserved name
+-x => bad character 0
+. => bad character 0
+ x => bad character 0
+\u{301}x => bad character 0
+x y => bad character 1
+x😀 => bad character 1
+éé/ => bad character 2
+abcdefghijkl/ => bad character 12"
+}
+
 #[test]
-fn other_texts_are_no_names_of_traits(rt: HostRuntime) {
-    for (text, fault) in [
-        ("", TraitFault::Empty),
-        ("defaults", TraitFault::Reserved),
-        ("-x", TraitFault::BadChar(0)),
-        (".", TraitFault::BadChar(0)),
-        (" x", TraitFault::BadChar(0)),
-        // A combining accent continues an identifier, and starts none.
-        ("\u{301}x", TraitFault::BadChar(0)),
-        ("x y", TraitFault::BadChar(1)),
-        ("x😀", TraitFault::BadChar(1)),
-        ("éé/", TraitFault::BadChar(2)),
-    ] {
-        let found = TraitName::parse(rt.alloc(), text).err();
-        assert_eq!(rt; found, Some(fault), "at {text:?}");
+fn names_of_traits_are_read(rt: HostRuntime) -> Result<(), Fail> {
+    for line in readings().lines() {
+        let (text, wanted) = sides(&rt, line);
+        let found = reading(rt.alloc(), text)?;
+        assert_text(&rt, found.as_str(), wanted, text);
     }
-}
-
-fn compared(alloc: Global, first: &str, second: &str) -> Result<Ordering, TraitFault> {
-    let first = TraitName::parse(alloc, first)?;
-    let second = TraitName::parse(alloc, second)?;
-    Ok(first.cmp(&second))
-}
-
-#[test]
-fn names_of_traits_are_ordered_by_bytes(rt: HostRuntime) {
-    for (first, second, order) in [
-        ("D", "D", Ordering::Equal),
-        ("E", "default", Ordering::Less),
-        ("x", "x1", Ordering::Less),
-        ("é", "z", Ordering::Greater),
-    ] {
-        let found = compared(rt.alloc(), first, second);
-        assert_eq!(rt; found, Ok(order), "{first} and {second}");
-    }
-}
-
-#[test]
-fn names_of_traits_are_copied_and_printed(rt: HostRuntime) -> Result<(), Fail> {
-    let alloc = rt.alloc();
-    let name = TraitName::parse(alloc, "x-y")?;
-    assert_eq!(rt; name.copy(alloc)?, name);
-    let printed = format!(in alloc; "{name}, {NoMemory}")?;
-    assert_eq!(rt; printed.as_str(), "x-y, no memory");
     Ok(())
 }
 
+// How two of them are ordered.
+fn order(alloc: Global, first: &str, second: &str) -> Result<&'static str, TraitFault> {
+    let first = TraitName::parse(alloc, first)?;
+    let second = TraitName::parse(alloc, second)?;
+    Ok(sign(first.cmp(&second)))
+}
+
+fn orders() -> &'static str {
+    "D D => =
+E default => <
+x x1 => <
+é z => >"
+}
+
 #[test]
-fn faults_of_traits_are_printed(rt: HostRuntime) -> Result<(), Fail> {
-    for (fault, printed) in [
-        (TraitFault::Empty, "empty name"),
-        (TraitFault::Reserved, "reserved name"),
-        (TraitFault::BadChar(12), "bad character 12"),
-        (TraitFault::Memory, "no memory"),
-    ] {
-        let text = fault.to_string(rt.alloc())?;
-        assert_eq!(rt; text.as_str(), printed);
+fn names_of_traits_are_ordered_by_bytes(rt: HostRuntime) -> Result<(), Fail> {
+    for line in orders().lines() {
+        let (case, wanted) = sides(&rt, line);
+        let (first, second) = case.split_once(' ').expect(&rt, case);
+        let found = order(rt.alloc(), first, second)?;
+        assert_text(&rt, found, wanted, case);
     }
     Ok(())
 }
@@ -86,7 +78,7 @@ fn names(alloc: Global, text: &str) -> Result<Vec<TraitName>, Fail> {
     Ok(names)
 }
 
-// Traits, written as their names, each with a colon and what it enables, and a semicolon.
+// A copy of traits, written as their names, each with a colon and what it enables, and a semicolon.
 fn traits(alloc: Global, text: &str) -> Result<Traits, Fail> {
     let mut entries = Vec::new(alloc);
     for entry in text.split(';') {
@@ -94,78 +86,71 @@ fn traits(alloc: Global, text: &str) -> Result<Traits, Fail> {
             break;
         };
         let name = TraitName::parse(alloc, name.trim())?;
-        let enables = Listed::from_vec(names(alloc, enables)?);
-        entries.push(TraitEntry { name, enables })?;
+        let enables = Items::from_vec(names(alloc, enables)?);
+        entries.push(TraitEntry { name, enables }.copy(alloc)?)?;
     }
-    Ok(Traits {
-        entries: Listed::from_vec(entries),
-    })
+    let entries = Items::from_vec(entries);
+    Ok(Traits { entries }.copy(alloc)?)
 }
 
-// The names, with a space behind each.
+// The names in braces, with a space behind each.
 fn joined(alloc: Global, names: &[TraitName]) -> Result<String, Fail> {
-    let mut text = String::new(alloc);
+    let mut text = String::from_str(alloc, "{")?;
     for name in names {
         text.push_str(name.text())?;
         text.push(' ')?;
     }
+    text.push('}')?;
     Ok(text)
 }
 
-// The names of a closure, or an exclamation mark and the name that is unknown.
+// The names of a closure, or how a copy of its fault prints.
 fn closed(alloc: Global, declared: &str, asked: &str) -> Result<String, Fail> {
     let traits = traits(alloc, declared)?;
     let asked = names(alloc, asked)?;
     match closure(alloc, &traits, &asked) {
         Ok(names) => joined(alloc, &names),
-        Err(ClosureFault::Unknown(name)) => Ok(format!(in alloc; "!{name}")?),
-        Err(fault) => Err(Fail::from(fault)),
+        Err(fault) => Ok(fault.copy(alloc)?.to_string(alloc)?),
     }
+}
+
+// Of entries with one name the first counts.
+fn closures() -> &'static str {
+    "default: D; D: E; E:; / default => {D E default }
+default: D; D: E; E:; / D => {D E }
+default: D; D: E; E:; / E => {E }
+default: D; D: E; E:; /  => {}
+default: D; D: E; E:; / Z => no trait Z is declared
+default: D; D: E; / default => no trait E is declared
+default: D; D: E; / D E D => no trait E is declared
+ / default => {default }
+ /  => {}
+A: B; B: A; / A => {A B }
+A: B; B: A; / B B => {A B }
+A: A default; / A => {A default }
+A: Z; B: Y; / A B => no trait Y is declared
+A: Z; B: Y; / B A => no trait Y is declared
+A: Y Z default; / A => no trait Y is declared
+A: B C; B: D; C: D; D:; / A => {A B C D }
+A: B; A: C; B:; C:; / A => {A B }"
 }
 
 #[test]
 fn closures_are_the_least(rt: HostRuntime) -> Result<(), Fail> {
-    for (declared, asked, answer) in [
-        ("default: D; D: E; E:;", "default", "D E default "),
-        ("default: D; D: E; E:;", "D", "D E "),
-        ("default: D; D: E; E:;", "E", "E "),
-        ("default: D; D: E; E:;", "", ""),
-        ("default: D; D: E; E:;", "Z", "!Z"),
-        ("default: D; D: E;", "default", "!E"),
-        ("default: D; D: E;", "D E D", "!E"),
-        ("", "default", "default "),
-        ("", "", ""),
-        ("A: B; B: A;", "A", "A B "),
-        ("A: B; B: A;", "B B", "A B "),
-        ("A: A default;", "A", "A default "),
-        ("A: Z; B: Y;", "A B", "!Y"),
-        ("A: Z; B: Y;", "B A", "!Y"),
-        ("A: Y Z default;", "A", "!Y"),
-        ("A: B C; B: D; C: D; D:;", "A", "A B C D "),
-        // Of entries with one name the first counts.
-        ("A: B; A: C; B:; C:;", "A", "A B "),
-    ] {
+    for line in closures().lines() {
+        let (case, wanted) = sides(&rt, line);
+        let (declared, asked) = case.split_once(" / ").expect(&rt, case);
         let found = closed(rt.alloc(), declared, asked)?;
-        assert_eq!(rt; found.as_str(), answer, "{asked} of {declared}");
+        assert_text(&rt, found.as_str(), wanted, case);
     }
     Ok(())
 }
 
-// How a copy of the traits prints, each entry a copy too.
-fn copied(alloc: Global, traits: &Traits) -> Result<String, Fail> {
-    let mut entries = Vec::new(alloc);
-    for entry in traits.copy(alloc)?.entries.into_vec() {
-        entries.push(entry.copy(alloc)?)?;
-    }
-    let entries = Listed::from_vec(entries);
-    Ok(format!(in alloc; "{:?}", Traits { entries })?)
-}
-
 #[test]
-fn traits_are_copied(rt: HostRuntime) -> Result<(), Fail> {
-    let alloc = rt.alloc();
-    let traits = traits(alloc, "default: D E; D:;")?;
-    let printed = format!(in alloc; "{traits:?}")?;
-    assert_eq!(rt; copied(alloc, &traits)?, printed);
+fn want_of_memory_for_traits_is_printed(rt: HostRuntime) -> Result<(), Fail> {
+    let printed = TraitFault::Memory.to_string(rt.alloc())?;
+    assert_text(&rt, printed.as_str(), "no memory", "a name");
+    let printed = ClosureFault::Memory.to_string(rt.alloc())?;
+    assert_text(&rt, printed.as_str(), "no memory", "a closure");
     Ok(())
 }

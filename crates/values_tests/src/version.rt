@@ -1,102 +1,100 @@
+use crate::support::{assert_text, sides, sign};
 use spm_version::{
-    Bytes, Duplicate, Items, Kind, NoMemory, Release, Requirement, Text, ToolsVersion,
-    VersionFault, ranks,
+    Bytes, Duplicate, Items, Kind, Release, Requirement, Text, ToolsVersion, VersionFault, ranks,
 };
 use std::alloc::Global;
 use std::cmp::Ordering;
+use std::process::Abort;
 use std::test::Fail;
 
-// How a copy of the release is spelled.
-fn spelled(alloc: Global, text: &str) -> Result<Text, VersionFault> {
-    let release = Release::parse(alloc, text)?;
-    let copy = release.copy(alloc)?;
-    Ok(copy.text(alloc)?)
-}
-
-// The examples of SemVer 2.0, sections 2, 9, 10 and 11, and the greatest number.
-#[test]
-fn versions_are_read_and_spelled(rt: HostRuntime) {
-    for text in [
-        "1.9.0",
-        "1.10.0",
-        "1.0.0-alpha",
-        "1.0.0-alpha.1",
-        "1.0.0-0.3.7",
-        "1.0.0-x.7.z.92",
-        "1.0.0-x-y-z.--",
-        "1.0.0-alpha+001",
-        "1.0.0+20130313144700",
-        "1.0.0-beta+exp.sha.5114f85",
-        "1.0.0+21AF26D3----117B344092BD",
-        "1.0.0-alpha.beta",
-        "1.0.0-rc.1",
-        "18446744073709551615.0.0",
-    ] {
-        let found = spelled(rt.alloc(), text).expect(&rt, text);
-        assert_eq!(rt; found.as_str(), text);
+// What a text is read as: how a copy of the release is spelled, or its fault.
+fn reading(alloc: Global, text: &str) -> Result<Text, VersionFault> {
+    match Release::parse(alloc, text) {
+        Ok(release) => Ok(release.copy(alloc)?.text(alloc)?),
+        Err(fault) => Ok(Text::from_string(fault.to_string(alloc)?)),
     }
 }
 
-#[test]
-fn other_texts_are_bad_versions(rt: HostRuntime) {
-    for text in [
-        "",
-        "1",
-        "1.2",
-        "01.2.3",
-        "1.2.3-",
-        "1.2.3-01",
-        "1.2.3-a..b",
-        "1.2.3+",
-        "1.2.3-é",
-        "1.2.3 ",
-        "v1.2.3",
-        "1.2.3.4",
-        "18446744073709551616.0.0",
-    ] {
-        let fault = Release::parse(rt.alloc(), text).err();
-        assert_eq!(rt; fault, Some(VersionFault::BadVersion), "at {text:?}");
-    }
+// The examples of SemVer 2.0, sections 2, 9, 10 and 11, the greatest number, and texts that are no versions.
+fn readings() -> &'static str {
+    "1.9.0 => 1.9.0
+1.10.0 => 1.10.0
+1.0.0-alpha => 1.0.0-alpha
+1.0.0-alpha.1 => 1.0.0-alpha.1
+1.0.0-0.3.7 => 1.0.0-0.3.7
+1.0.0-x.7.z.92 => 1.0.0-x.7.z.92
+1.0.0-x-y-z.-- => 1.0.0-x-y-z.--
+1.0.0-alpha+001 => 1.0.0-alpha+001
+1.0.0+20130313144700 => 1.0.0+20130313144700
+1.0.0-beta+exp.sha.5114f85 => 1.0.0-beta+exp.sha.5114f85
+1.0.0+21AF26D3----117B344092BD => 1.0.0+21AF26D3----117B344092BD
+1.0.0-alpha.beta => 1.0.0-alpha.beta
+1.0.0-rc.1 => 1.0.0-rc.1
+1.0.0-rc.1+x => 1.0.0-rc.1+x
+18446744073709551615.0.0 => 18446744073709551615.0.0
+ => bad version
+1 => bad version
+1.2 => bad version
+01.2.3 => bad version
+1.2.3- => bad version
+1.2.3-01 => bad version
+1.2.3-a..b => bad version
+1.2.3+ => bad version
+1.2.3-é => bad version
+1.2.3  => bad version
+v1.2.3 => bad version
+1.2.3.4 => bad version
+18446744073709551616.0.0 => bad version"
 }
 
-// By the whole order, and by precedence.
-fn compared(
-    alloc: Global,
-    first: &str,
-    second: &str,
-) -> Result<(Ordering, Ordering), VersionFault> {
+#[test]
+fn versions_are_read_and_spelled(rt: HostRuntime) -> Result<(), Fail> {
+    for line in readings().lines() {
+        let (text, wanted) = sides(&rt, line);
+        let found = reading(rt.alloc(), text)?;
+        assert_text(&rt, found.as_str(), wanted, text);
+    }
+    Ok(())
+}
+
+// How two releases are ordered by precedence, where the first is less than the second.
+fn order(alloc: Global, first: &str, second: &str) -> Result<&'static str, VersionFault> {
     let first = Release::parse(alloc, first)?;
     let second = Release::parse(alloc, second)?;
-    Ok((first.cmp(&second), first.cmp_precedence(&second)))
+    Ok(match first.cmp(&second) {
+        Ordering::Less => sign(first.cmp_precedence(&second)),
+        _ => "no",
+    })
 }
 
 // The two lists of SemVer 2.0, section 11, and then build metadata, which has no part in precedence.
+fn orders() -> &'static str {
+    "1.0.0 2.0.0 => <
+2.0.0 2.1.0 => <
+2.1.0 2.1.1 => <
+1.0.0-alpha 1.0.0-alpha.1 => <
+1.0.0-alpha.1 1.0.0-alpha.beta => <
+1.0.0-alpha.beta 1.0.0-beta => <
+1.0.0-beta 1.0.0-beta.2 => <
+1.0.0-beta.2 1.0.0-beta.11 => <
+1.0.0-beta.11 1.0.0-rc.1 => <
+1.0.0-rc.1 1.0.0 => <
+1.0.0 1.0.0+0 => =
+1.0.0+0 1.0.0+00 => =
+1.0.0+00 1.0.0+1 => =
+1.0.0+1 1.0.0+01 => =
+1.0.0+01 1.0.0+x => ="
+}
+
 #[test]
-fn releases_are_ordered(rt: HostRuntime) {
-    for (lower, higher, precedence) in [
-        ("1.0.0", "2.0.0", Ordering::Less),
-        ("2.0.0", "2.1.0", Ordering::Less),
-        ("2.1.0", "2.1.1", Ordering::Less),
-        ("1.0.0-alpha", "1.0.0-alpha.1", Ordering::Less),
-        ("1.0.0-alpha.1", "1.0.0-alpha.beta", Ordering::Less),
-        ("1.0.0-alpha.beta", "1.0.0-beta", Ordering::Less),
-        ("1.0.0-beta", "1.0.0-beta.2", Ordering::Less),
-        ("1.0.0-beta.2", "1.0.0-beta.11", Ordering::Less),
-        ("1.0.0-beta.11", "1.0.0-rc.1", Ordering::Less),
-        ("1.0.0-rc.1", "1.0.0", Ordering::Less),
-        ("1.0.0", "1.0.0+0", Ordering::Equal),
-        ("1.0.0+0", "1.0.0+00", Ordering::Equal),
-        ("1.0.0+00", "1.0.0+1", Ordering::Equal),
-        ("1.0.0+1", "1.0.0+01", Ordering::Equal),
-        ("1.0.0+01", "1.0.0+x", Ordering::Equal),
-    ] {
-        let found = compared(rt.alloc(), lower, higher);
-        assert_eq!(rt;
-            found,
-            Ok((Ordering::Less, precedence)),
-            "{lower} and {higher}"
-        );
+fn releases_are_ordered(rt: HostRuntime) -> Result<(), Fail> {
+    for line in orders().lines() {
+        let (case, wanted) = sides(&rt, line);
+        let (lower, higher) = case.split_once(' ').expect(&rt, case);
+        let found = order(rt.alloc(), lower, higher)?;
+        assert_text(&rt, found, wanted, case);
     }
+    Ok(())
 }
 
 fn range(alloc: Global, low: &str, high: &str) -> Result<Requirement, VersionFault> {
@@ -105,117 +103,126 @@ fn range(alloc: Global, low: &str, high: &str) -> Result<Requirement, VersionFau
     Ok(Requirement::Range(low, high))
 }
 
+// A requirement: a range with `..<` between its bounds, a word and a text, or a path.
+fn requirement(alloc: Global, text: &str) -> Result<Requirement, VersionFault> {
+    if let Some((low, high)) = text.split_once("..<") {
+        return range(alloc, low, high);
+    }
+    match text.split_once(' ') {
+        Some(("exact", release)) => Ok(Requirement::Exact(Release::parse(alloc, release)?)),
+        Some(("branch", name)) => Ok(Requirement::Branch(Text::from_str(alloc, name)?)),
+        Some(("revision", name)) => Ok(Requirement::Revision(Text::from_str(alloc, name)?)),
+        _ => Ok(Requirement::Path),
+    }
+}
+
 // Whether a copy of the requirement contains the release.
-fn contains(alloc: Global, requirement: &Requirement, release: &str) -> Result<bool, VersionFault> {
+fn contains(alloc: Global, text: &str, release: &str) -> Result<&'static str, VersionFault> {
     let release = Release::parse(alloc, release)?;
-    let copy = requirement.copy(alloc)?;
-    Ok(copy.contains(&release))
+    let copy = requirement(alloc, text)?.duplicate(alloc)?;
+    Ok(if copy.contains(&release) {
+        "inside"
+    } else {
+        "outside"
+    })
 }
 
-fn range_contains(
-    alloc: Global,
-    low: &str,
-    high: &str,
-    release: &str,
-) -> Result<bool, VersionFault> {
-    contains(alloc, &range(alloc, low, high)?, release)
-}
-
-#[test]
-fn ranges_contain_pre_releases_by_their_bounds(rt: HostRuntime) {
-    for (low, high, release, is_inside) in [
-        ("1.0.0", "2.0.0", "0.9.9", false),
-        ("1.0.0", "2.0.0", "1.0.0", true),
-        ("1.0.0", "2.0.0", "2.0.0", false),
-        ("1.0.0", "2.0.0", "2.0.0+x", false),
-        ("1.0.0", "2.0.0", "1.5.0-rc.1", false),
-        ("1.0.0", "2.0.0", "2.0.0-beta.1", false),
-        ("1.0.0-a", "2.0.0", "1.5.0-rc.1", true),
-        ("2.0.0-alpha", "2.0.0", "2.0.0-beta.1", false),
-        ("2.0.0-alpha", "3.0.0", "2.0.0-beta.1", true),
-        ("1.0.0", "2.0.0-beta", "2.0.0-alpha", true),
-        ("1.0.0", "2.0.0-beta", "2.0.0-beta", false),
-        ("1.0.0", "2.0.0-beta", "1.0.0-alpha", false),
-        ("1.0.0", "1.0.0", "1.0.0", false),
-        ("1.0.0-a", "1.0.0-a", "1.0.0-a", false),
-    ] {
-        let found = range_contains(rt.alloc(), low, high, release);
-        assert_eq!(rt; found, Ok(is_inside), "{release} in {low}..<{high}");
-    }
+fn contained() -> &'static str {
+    "1.0.0..<2.0.0, 0.9.9 => outside
+1.0.0..<2.0.0, 1.0.0 => inside
+1.0.0..<2.0.0, 2.0.0 => outside
+1.0.0..<2.0.0, 2.0.0+x => outside
+1.0.0..<2.0.0, 1.5.0-rc.1 => outside
+1.0.0..<2.0.0, 2.0.0-beta.1 => outside
+1.0.0-a..<2.0.0, 1.5.0-rc.1 => inside
+2.0.0-alpha..<2.0.0, 2.0.0-beta.1 => outside
+2.0.0-alpha..<3.0.0, 2.0.0-beta.1 => inside
+1.0.0..<2.0.0-beta, 2.0.0-alpha => inside
+1.0.0..<2.0.0-beta, 2.0.0-beta => outside
+1.0.0..<2.0.0-beta, 1.0.0-alpha => outside
+1.0.0..<1.0.0, 1.0.0 => outside
+1.0.0-a..<1.0.0-a, 1.0.0-a => outside
+exact 1.0.0, 1.0.0 => inside
+exact 1.0.0, 1.0.0+x => outside
+branch 1.0.0, 1.0.0 => outside
+revision 1.0.0, 1.0.0 => outside
+path, 1.0.0 => outside"
 }
 
 #[test]
-fn an_exact_requirement_contains_its_text_alone(rt: HostRuntime) -> Result<(), Fail> {
-    let alloc = rt.alloc();
-    let exact = Requirement::Exact(Release::parse(alloc, "1.0.0")?).duplicate(alloc)?;
-    assert_eq!(rt; contains(alloc, &exact, "1.0.0"), Ok(true));
-    assert_eq!(rt; contains(alloc, &exact, "1.0.0+x"), Ok(false));
-    Ok(())
-}
-
-#[test]
-fn branches_revisions_and_paths_contain_nothing(rt: HostRuntime) -> Result<(), Fail> {
-    let alloc = rt.alloc();
-    let branch = Text::from_str(alloc, "1.0.0")?;
-    let revision = branch.copy(alloc)?;
-    for requirement in [
-        Requirement::Branch(branch),
-        Requirement::Revision(revision),
-        Requirement::Path,
-    ] {
-        let found = contains(alloc, &requirement, "1.0.0");
-        assert_eq!(rt; found, Ok(false), "in {requirement:?}");
+fn requirements_contain_releases(rt: HostRuntime) -> Result<(), Fail> {
+    for line in contained().lines() {
+        let (case, wanted) = sides(&rt, line);
+        let (text, release) = case.split_once(", ").expect(&rt, case);
+        let found = contains(rt.alloc(), text, release)?;
+        assert_text(&rt, found, wanted, case);
     }
     Ok(())
 }
 
-fn releases(alloc: Global, texts: &[&str]) -> Result<Items<Release>, VersionFault> {
+// A copy of the releases that the words of a text are.
+fn releases(alloc: Global, text: &str) -> Result<Items<Release>, VersionFault> {
     let mut releases = Items::new(alloc);
-    for text in texts {
-        releases.push(Release::parse(alloc, text)?)?;
+    for word in text.split_whitespace() {
+        releases.push(Release::parse(alloc, word)?)?;
     }
-    Ok(releases)
+    Ok(releases.copy(alloc)?)
+}
+
+// The ranks of the releases in a range, with a comma behind each.
+fn ranked(alloc: Global, range: &str, list: &str) -> Result<String, Fail> {
+    let releases = releases(alloc, list)?;
+    let three = releases.as_slice().get(..3).ok_or("three releases")?;
+    let range = requirement(alloc, range)?;
+    let mut text = String::new(alloc);
+    for rank in ranks(alloc, three, &range)? {
+        write!(text, "{rank},")?;
+    }
+    Ok(text)
 }
 
 #[test]
 fn ranks_are_counted_from_1(rt: HostRuntime) -> Result<(), Fail> {
     let alloc = rt.alloc();
-    let releases = releases(alloc, &["1.0.0", "1.1.0", "2.0.0"])?;
-    let list = releases.as_slice();
-    assert_eq!(rt; list.len(), 3);
-    for (low, high, places) in [("1.0.0", "2.0.0", [1, 2]), ("1.1.0", "3.0.0", [2, 3])] {
-        let requirement = range(alloc, low, high).expect(&rt, low);
-        let found = ranks(alloc, list, &requirement).expect(&rt, low);
-        assert_eq!(rt; found.as_slice(), places.as_slice(), "at {low}..<{high}");
-    }
+    let list = "1.0.0 1.1.0 2.0.0";
+    let found = ranked(alloc, "1.0.0..<2.0.0", list)?;
+    assert_text(&rt, found.as_str(), "1,2,", list);
+    let found = ranked(alloc, "1.1.0..<3.0.0", list)?;
+    assert_text(&rt, found.as_str(), "2,3,", list);
     Ok(())
+}
+
+// What a text is read as: how the tools version prints, or that it is none.
+fn tools(alloc: Global, text: &str) -> Result<String, Fail> {
+    match ToolsVersion::parse(text) {
+        Some(version) => Ok(version.to_string(alloc)?),
+        None => Ok(String::from_str(alloc, "none")?),
+    }
+}
+
+fn tools_versions() -> &'static str {
+    "5.9.0 => 5.9.0
+5.9 => 5.9.0
+5 => 5.0.0
+6.1 => 6.1.0
+05.009 => 5.9.0
+999999999 => 999999999.0.0
+ => none
+5. => none
+.5 => none
+5..0 => none
+5.9.0.1 => none
+1234567890 => none
+5.x => none
++5 => none"
 }
 
 #[test]
 fn tools_versions_have_one_to_three_numbers(rt: HostRuntime) -> Result<(), Fail> {
-    let alloc = rt.alloc();
-    for (text, wanted) in [
-        ("5.9.0", Some("5.9.0")),
-        ("5.9", Some("5.9.0")),
-        ("5", Some("5.0.0")),
-        ("6.1", Some("6.1.0")),
-        ("05.009", Some("5.9.0")),
-        ("999999999", Some("999999999.0.0")),
-        ("", None),
-        ("5.", None),
-        (".5", None),
-        ("5..0", None),
-        ("5.9.0.1", None),
-        ("1234567890", None),
-        ("5.x", None),
-        ("+5", None),
-    ] {
-        let printed = match ToolsVersion::parse(text) {
-            Some(version) => Some(version.to_string(alloc)?),
-            None => None,
-        };
-        let found = printed.as_ref().map(|text| text.as_str());
-        assert_eq!(rt; found, wanted, "at {text:?}");
+    for line in tools_versions().lines() {
+        let (text, wanted) = sides(&rt, line);
+        let found = tools(rt.alloc(), text)?;
+        assert_text(&rt, found.as_str(), wanted, text);
     }
     Ok(())
 }
@@ -230,54 +237,49 @@ fn tools_versions_are_ordered_by_numbers(rt: HostRuntime) -> Result<(), Fail> {
 }
 
 #[test]
-fn texts_and_bytes_are_copied(rt: HostRuntime) -> Result<(), Fail> {
+fn texts_are_copied(rt: HostRuntime) -> Result<(), Fail> {
     let alloc = rt.alloc();
     let text = Text::from_str(alloc, "main")?.duplicate(alloc)?;
-    assert_eq!(rt; text.as_str(), "main");
-    let bytes = Bytes::from_slice(alloc, b"main")?
-        .copy(alloc)?
-        .duplicate(alloc)?;
-    assert_eq!(rt; bytes.as_slice(), b"main".as_slice());
+    let printed = text.to_string(alloc)?;
+    assert_text(&rt, printed.as_str(), "main", "a text");
     Ok(())
 }
 
 #[test]
-fn lists_are_copied(rt: HostRuntime) -> Result<(), Fail> {
+fn bytes_are_copied(rt: HostRuntime) -> Result<(), Fail> {
     let alloc = rt.alloc();
-    let list = releases(alloc, &["1.0.0", "1.0.0-rc.1+x"])?;
-    let copy = list.copy(alloc)?;
-    assert_eq!(rt; copy.as_slice(), list.as_slice());
+    let bytes = Bytes::from_slice(alloc, b"main")?.copy(alloc)?;
+    let copy = bytes.duplicate(alloc)?;
+    assert!(rt; copy.as_slice() == b"main".as_slice());
     Ok(())
 }
 
-#[test]
-fn kinds_are_printed(rt: HostRuntime) -> Result<(), Fail> {
-    for (kind, printed) in [
-        (Kind::NotJson, "not JSON"),
-        (Kind::Missing, "missing"),
-        (Kind::WrongKind, "wrong kind"),
-        (Kind::BadIdentity, "bad identity"),
-        (Kind::BadVersion, "bad version"),
-        (Kind::BadTrait, "bad trait"),
-        (Kind::Doubled, "doubled"),
-        (Kind::TooMany, "too many"),
-        (Kind::BadHex, "bad hex"),
-    ] {
-        let text = kind.to_string(rt.alloc())?;
-        assert_eq!(rt; text.as_str(), printed);
-    }
-    Ok(())
+// Asserts how a kind prints.
+fn assert_kind(rt: &impl Abort, alloc: Global, kind: Kind, wanted: &str) {
+    let printed = kind.to_string(alloc).expect(rt, wanted);
+    assert_text(rt, printed.as_str(), wanted, "a kind");
 }
 
 #[test]
-fn releases_texts_and_faults_are_printed(rt: HostRuntime) -> Result<(), Fail> {
+fn kinds_are_printed(rt: HostRuntime) {
+    let alloc = rt.alloc();
+    assert_kind(&rt, alloc, Kind::NotJson, "not JSON");
+    assert_kind(&rt, alloc, Kind::Missing, "missing");
+    assert_kind(&rt, alloc, Kind::WrongKind, "wrong kind");
+    assert_kind(&rt, alloc, Kind::BadIdentity, "bad identity");
+    assert_kind(&rt, alloc, Kind::BadVersion, "bad version");
+    assert_kind(&rt, alloc, Kind::BadTrait, "bad trait");
+    assert_kind(&rt, alloc, Kind::Doubled, "doubled");
+    assert_kind(&rt, alloc, Kind::TooMany, "too many");
+    assert_kind(&rt, alloc, Kind::BadHex, "bad hex");
+}
+
+#[test]
+fn releases_and_want_of_memory_are_printed(rt: HostRuntime) -> Result<(), Fail> {
     let alloc = rt.alloc();
     let release = Release::parse(alloc, "1.0.0-rc.1+x")?;
-    let text = Text::from_str(alloc, "main")?;
-    let printed = format!(in alloc; "{release}, {text}, {NoMemory}")?;
-    assert_eq!(rt; printed.as_str(), "1.0.0-rc.1+x, main, no memory");
-    let (bad, memory) = (VersionFault::BadVersion, VersionFault::Memory);
-    let printed = format!(in alloc; "{bad}, {memory}")?;
-    assert_eq!(rt; printed.as_str(), "bad version, no memory");
+    let memory = VersionFault::Memory;
+    let printed = format!(in alloc; "{release}, {memory}")?;
+    assert_text(&rt, printed.as_str(), "1.0.0-rc.1+x, no memory", "both");
     Ok(())
 }

@@ -1,7 +1,7 @@
 use Rattle.std.proofs.Common.{◌≡◌, ◌∙◌, ◌+◌, ◌++◌, ◌∷◌, [], length, Ok, subst, arith}
 use Rattle.pub_proof.specs.Checked.{at_line, line_in}
 use Rattle.pub_proof.specs.Checks.{terms_of}
-use Rattle.pub_proof.proofs.GoodLemmas.{are_good_behind, lines_next}
+use Rattle.pub_proof.proofs.FormedLemmas.{are_formed_behind, lines_next}
 use Rattle.pub_proof.proofs.checking.all_lines.Goals as goal
 
 pub loop-line-preserved : goal.loop-line-preserved
@@ -11,7 +11,7 @@ loop-line-preserved c =
     let pushed : c.push.new.self ≡ c.loop-line.derived ++ c.in_ok-next.next ∷ [] = c.in_ok-push.ensures.ok in
     record {
       place = omega arith;
-      good = rw pushed (are_good_behind sizes facts c.loop-line.derived c.in_ok-next.next c.loop-line.invariant.good c.in_ok-next.ensures.good);
+      formed = rw pushed (are_formed_behind sizes c.loop-line.derived c.in_ok-next.next c.loop-line.invariant.formed c.in_ok-next.ensures.formed);
       left =
           rw pushed
           (lines_next sizes facts c.loop-line.derived c.args.lines.now c.loop-line.line-index c.line-item.result c.in_ok-next.next (omega arith) c.line-item.is

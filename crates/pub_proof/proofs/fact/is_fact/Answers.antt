@@ -1,5 +1,5 @@
 use Rattle.std.proofs.Common.{sym}
-use Rattle.pub_proof.proofs.GoodLemmas.{among_at}
+use Rattle.pub_proof.proofs.FormedLemmas.{among_at}
 use Rattle.pub_proof.proofs.fact.is_fact.Goals as goal
 
 pub returns-then-eq : goal.returns-then-eq

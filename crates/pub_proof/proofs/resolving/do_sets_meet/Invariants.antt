@@ -1,7 +1,7 @@
 use Rattle.std.proofs.Common.{◌≡◌, drop}
 use Rattle.std.specs.List.{list_all}
 use Rattle.pub_proof.specs.Checked.{meets_in}
-use Rattle.pub_proof.specs.Good.{SizesAgree}
+use Rattle.pub_proof.specs.Formed.{SizesAgree}
 use Rattle.pub_proof.proofs.resolving.do_sets_meet.Given as goal
 
 abbrev pub invariant-loop-term : goal.invariant-loop-term

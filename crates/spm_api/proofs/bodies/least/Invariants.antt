@@ -1,5 +1,5 @@
 use Rattle.std.proofs.Common.{◌≡◌, None, drop}
-use Rattle.spm_api.specs.Bodies.{least_after}
+use Rattle.spm_api.proofs.LeastLemmas.{least_after}
 use Rattle.spm_api.proofs.bodies.least.Given as goal
 
 abbrev pub invariant-loop-text : goal.invariant-loop-text

@@ -4,6 +4,7 @@ use Rattle.spm_http.proofs.SizeLines.{line_read, never_line, no_line}
 use Rattle.spm_http.proofs.chunked.read_size_line.Goals as goal
 use Rattle.spm_http.proofs.chunked.read_size_line.Goals.{In-Ok-Complete}
 
+-- the line that is read is one of the definition
 read : (c : In-Ok-Complete) → (c.in-Ok-Complete.len ≤ length c.args.bytes.now)
     × (size_line c.args.bytes.now ≡ Some (c.in-Ok-Complete.size, drop c.in-Ok-Complete.len c.args.bytes.now))
 read c =

@@ -5,11 +5,11 @@ use Rattle.spm_http.proofs.Found.{completed}
 use Rattle.spm_http.proofs.Fronts.{is_read, overflows_no_head, overflows_no_prefix}
 use Rattle.spm_http.proofs.request_head.read_request.Goals as goal
 
-pub returns-in-Ok : goal.returns-in-Ok
-returns-in-Ok c =
-    is_read c.args.bytes.now c.front_of-front.result.now c.parse_request.new.headers c.in-Ok-Complete.spans c.in-Ok.ensures.0
-    c.in-Ok.head c.front_of-front.ensures c.parse_request.auto.headers (completed (IsRequestWithin c.front_of-front.result.now c.parse_request.new.headers) c.in-Ok-Complete.field-0-is c.in-Ok-Complete.ensures.within)
-    c.in-Ok.ensures.1 c.in-Ok.ensures.2
+pub returns-in_ok-head_of-in-Ok-Complete : goal.returns-in_ok-head_of-in-Ok-Complete
+returns-in_ok-head_of-in-Ok-Complete c =
+    is_read c.args.bytes.now c.front_of-front.result.now c.parse_request.new.headers c.in-Ok-Complete.spans c.in_ok-head_of-in-Ok-Complete.ensures.0
+    c.in_ok-head_of-in-Ok-Complete.field-0 c.front_of-front.ensures c.parse_request.auto.headers (completed (IsRequestWithin c.front_of-front.result.now c.parse_request.new.headers) c.in-Ok-Complete.field-0-is c.in-Ok-Complete.ensures.within)
+    c.in_ok-head_of-in-Ok-Complete.ensures.1 c.in_ok-head_of-in-Ok-Complete.ensures.2
 
 pub returns-in-Err : goal.returns-in-Err
 returns-in-Err c =

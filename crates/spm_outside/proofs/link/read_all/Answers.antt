@@ -1,6 +1,6 @@
 use Rattle.std.proofs.Common.{◌∙◌, ◌≤◌, ◌-◌, ◌++◌, ap, arith, drop, length, take}
 use Rattle.std.proofs.lemmas.Result.{err_from_is_err_and}
-use Rattle.spm_outside.proofs.ExchangeLemmas.{front_of, left_at_end, read_more, read_to_end, whole_again, within_limit}
+use Rattle.spm_outside.proofs.ExchangeLemmas.{front_of, left_at_end, length_more, read_more, read_to_end, sums_add, whole_again, within_limit}
 use Rattle.spm_outside.proofs.link.read_all.Goals as goal
 
 pub loop-piece-preserved : goal.loop-piece-preserved
@@ -19,6 +19,7 @@ loop-piece-preserved g c =
       book = read.book ∙ inv.book;
       calls = read.calls ∙ inv.calls;
       faults = read.faults ∙ inv.faults;
+      taken = rw same (sums_add _ _ _ _ _ _ inv.taken read.taken (length_more bytes piece count read.rest.1));
       rest = rw same (read_more bytes piece count _ _ _ inv.rest read.rest);
     }
 
@@ -47,4 +48,17 @@ returns-in_err-extend_from_slice-clause-rest g c =
       length (bytes ++ take count piece),
       within_limit bytes piece c.loop-piece.piece count wanted c.args.limit read.rest.1 c.read.auto.piece small inv.within,
       (read_more bytes piece count _ _ _ inv.rest read.rest).left_is,
+    )
+
+pub returns-in_err-extend_from_slice-clause-taken : goal.returns-in_err-extend_from_slice-clause-taken
+returns-in_err-extend_from_slice-clause-taken g c =
+    let inv = c.loop-piece.invariant in
+    let read = c.in_ok-count.ensures in
+    let bytes = c.loop-piece.bytes.items in
+    let piece = c.read.new.piece in
+    let count = c.in_ok-count.count in
+    let small : c.min-wanted.result ≤ c.args.limit - length bytes = grind (arith, c.min-wanted.ensures) in (
+      length (bytes ++ take count piece),
+      within_limit bytes piece c.loop-piece.piece count c.min-wanted.result c.args.limit read.rest.1 c.read.auto.piece small inv.within,
+      sums_add _ _ _ _ _ _ inv.taken read.taken (length_more bytes piece count read.rest.1),
     )

@@ -4,8 +4,8 @@ use Rattle.spm_outside.proofs.sink.put_all.Given as goal
 abbrev pub invariant-loop-done : goal.invariant-loop-done
 invariant-loop-done g l = record {
   within : l.done ≤ length l.bytes;
-  written : g.S.Sink.written l.sink ≡ option_map (λ written. written ++ take l.done l.bytes) (g.S.Sink.written l.initial.sink);
-  faults : g.S.Sink.faults l.sink ≡ g.S.Sink.faults l.initial.sink;
+  written : (g.S.Sink.state l.sink).written ≡ option_map (λ written. written ++ take l.done l.bytes) (g.S.Sink.state l.initial.sink).written;
+  faults : (g.S.Sink.state l.sink).faults ≡ (g.S.Sink.state l.initial.sink).faults;
 }
 
 abbrev pub decreases-loop-done : goal.decreases-loop-done

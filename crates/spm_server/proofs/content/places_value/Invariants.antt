@@ -1,6 +1,6 @@
 use Rattle.std.proofs.Common.{◌≡◌, drop, map}
 use Rattle.serde_json.specs.Data.{no_members}
-use Rattle.spm_shelf.specs.Written.{put_all}
+use Rattle.spm_json.specs.Written.{put_all}
 use Rattle.spm_server.specs.Content.{listed_pair}
 use Rattle.spm_server.proofs.content.places_value.Given as goal
 

@@ -1,6 +1,6 @@
 use Rattle.std.proofs.Common.{◌≡◌, ◌++◌, drop}
 use Rattle.std.specs.List.{All, flat_map}
-use Rattle.spm_server.specs.Keys.{IsKey}
+use Rattle.spm_key.specs.Key.{IsKey}
 use Rattle.spm_server.specs.Pages.{package_keys, release_keys}
 use Rattle.spm_server.proofs.pages.add_package_keys.Given as goal
 

@@ -1,4 +1,4 @@
-use Rattle.spm_server.specs.Keys.{IsKey}
+use Rattle.spm_key.specs.Key.{IsKey}
 use Rattle.spm_server.proofs.PagesLemmas.{pushed}
 use Rattle.spm_server.proofs.pages.add_release_keys.Goals as goal
 

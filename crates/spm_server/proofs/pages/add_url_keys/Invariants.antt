@@ -1,6 +1,6 @@
 use Rattle.std.proofs.Common.{◌≡◌, ◌++◌, drop, map}
 use Rattle.std.specs.List.{All}
-use Rattle.spm_server.specs.Keys.{IsKey}
+use Rattle.spm_key.specs.Key.{IsKey}
 use Rattle.spm_server.specs.Pages.{url_key}
 use Rattle.spm_server.proofs.pages.add_url_keys.Given as goal
 

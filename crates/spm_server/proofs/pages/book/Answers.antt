@@ -1,7 +1,7 @@
 use Rattle.std.proofs.Common.{◌≡◌, ◌∙◌, arith, sym, subst}
 use Rattle.std.specs.List.{All}
 use Rattle.spm_outside.specs.Book.{Pages}
-use Rattle.spm_server.specs.Keys.{IsKey}
+use Rattle.spm_key.specs.Key.{IsKey}
 use Rattle.spm_server.specs.Pages.{AnswersAskable, RefusesOthers, entries_for}
 use Rattle.spm_server.proofs.PagesLemmas.{all_done, answers_askable, if_ok_then, one_more, refuses_others, same_pages}
 use Rattle.spm_server.proofs.pages.book.Goals as goal

@@ -7,9 +7,9 @@ invariant-loop-alloc g l = record {
   within : length l.request.items ≤ 65536;
   piece : length l.piece ≡ 4096;
   unfinished : IsUnfinished l.request.items;
-  taken : IfSome (g.P.Peer.taken l.peer) (λ taken. taken ≡ l.request.items);
-  written : g.P.Peer.written l.peer ≡ g.P.Peer.written l.initial.peer;
-  faults : g.P.Peer.faults l.peer ≡ g.P.Peer.faults l.initial.peer;
+  taken : IfSome (g.P.Peer.state l.peer).taken (λ taken. taken ≡ l.request.items);
+  written : (g.P.Peer.state l.peer).written ≡ (g.P.Peer.state l.initial.peer).written;
+  faults : (g.P.Peer.state l.peer).faults ≡ (g.P.Peer.state l.initial.peer).faults;
 }
 
 abbrev pub decreases-loop-alloc : goal.decreases-loop-alloc

@@ -1,7 +1,7 @@
 use Rattle.std.proofs.Common.{◌≡◌, drop, map}
 use Rattle.serde_json.specs.Data.{no_members}
 use Rattle.spm_shelf.specs.ShelfText.{release_pair}
-use Rattle.spm_shelf.specs.Written.{put_all}
+use Rattle.spm_json.specs.Written.{put_all}
 use Rattle.spm_shelf.proofs.file_text.releases_value.Given as goal
 
 abbrev pub invariant-loop-release : goal.invariant-loop-release

@@ -1,21 +1,23 @@
-use Rattle.std.proofs.Common.{◌≡◌, ◌∙◌, ap, rules}
-use Rattle.std.specs.List.{filter}
-use Rattle.pub_set.specs.Choices.{has}
-use Rattle.pub_set.proofs.AscendingLemmas.{IsAscending-filter}
-use Rattle.pub_set.proofs.SetLemmas.{set_of, shared_is_where}
+use Rattle.std.proofs.Common.{◌≡◌, ◌+◌, ◌&&◌, ◌∙◌, sym, ap, ap₂, subst}
+use Rattle.pub_set.specs.Choices.{ChoiceSet, is_among}
+use Rattle.pub_set.specs.Runs.{AreRuns, is_in, numbers_in}
+use Rattle.pub_set.proofs.RunLemmas.{is_among-numbers_in, runs_are_where}
 use Rattle.pub_set.proofs.choices.Choices.intersect.Goals as goal
-
-pub invariant_of-result : goal.invariant_of-result
-invariant_of-result c =
-    let other = c.args.other.now in
-    let members = c.self.inside.members.items in
-    let kept : c.in_ok-members.members.items ≡ filter (has other) members = search rules in
-    rw kept (IsAscending-filter (has other) 0 c.self.inside.size members c.self.invariant)
 
 pub returns : goal.returns
 returns c =
-    let other = c.args.other.now in
-    let members = c.self.inside.members.items in
-    let kept : c.in_ok-members.members.items ≡ filter (has other) members = search rules in
-    rw (← c.self.view_is)
-    (ap (set_of c.self.inside.size) kept ∙ shared_is_where c.self.inside.size members other.members c.self.invariant)
+    let size = c.self.inside.size in
+    let xs = c.self.inside.runs.items in
+    let ys = c.other.inside.runs.items in
+    let xs' = c.deref.result.now in
+    let ys' = c.deref-2.result.now in
+    let sizes : size ≡ c.other.inside.size
+    = ap (λ (set : ChoiceSet). set.size) c.self.view_is ∙ c.requires ∙ sym (ap (λ (set : ChoiceSet). set.size) c.other.view_is) in
+    let up_x = subst (AreRuns 0 (size + 1)) (sym c.deref.ensures.value) c.self.invariant in
+    let up_y = subst (AreRuns 0 (size + 1)) (sym c.deref-2.ensures.value) (subst (λ n. AreRuns 0 (n + 1) ys) (sym sizes) c.other.invariant) in
+    rw (← c.self.view_is, ← c.other.view_is)
+    (runs_are_where size (λ k. is_in xs' k && is_in ys' k) (λ k. is_among (numbers_in xs) k && is_among (numbers_in ys) k) c.in_ok-runs.runs.items
+    (c.in_ok-runs.ensures (size + 1) up_x up_y)
+    (λ k below.
+    ap₂ (λ us vs. is_in us k && is_in vs k) c.deref.ensures.value c.deref-2.ensures.value
+    ∙ sym (ap₂ ◌&&◌ (is_among-numbers_in xs k) (is_among-numbers_in ys k))))

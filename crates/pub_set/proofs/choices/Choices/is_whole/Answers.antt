@@ -1,10 +1,15 @@
-use Rattle.std.proofs.Common.{◌≡◌, ◌==◌, ◌∙◌, ap, length, vec_len, rules}
-use Rattle.pub_set.proofs.SetLemmas.{whole_by_length}
+use Rattle.std.proofs.Common.{◌∙◌, sym, ap}
+use Rattle.std.specs.List.{list_all}
+use Rattle.pub_set.specs.Choices.{is_among, numbers_below}
+use Rattle.pub_set.specs.Runs.{is_in, numbers_in}
+use Rattle.pub_set.proofs.RunLemmas.{is_among-numbers_in}
+use Rattle.pub_set.proofs.StepLemmas.{list_all-same}
 use Rattle.pub_set.proofs.choices.Choices.is_whole.Goals as goal
 
 pub returns : goal.returns
 returns c =
-    let members = c.self.inside.members in
-    let long : vec_len members ≡ length members.items = search rules in
+    let size = c.self.inside.size in
+    let runs = c.self.inside.runs.items in
     rw (← c.self.view_is)
-    (ap (λ n. n == c.self.inside.size) (c.len.ensures ∙ long) ∙ whole_by_length c.self.inside.size members.items c.self.invariant)
+    (c.are_whole.ensures ∙ ap (λ rs. list_all (is_in rs) (numbers_below size)) c.deref.ensures.value
+    ∙ list_all-same (is_in runs) (is_among (numbers_in runs)) (numbers_below size) (λ k _. sym (is_among-numbers_in runs k)))

@@ -1,9 +1,0 @@
-use Rattle.std.proofs.Common.{arith, sym}
-use Rattle.std.proofs.lemmas.List.{length-take-le, take_all}
-use Rattle.spm_http.proofs.request_head.front_of.Goals as goal
-
-pub slice_bounds-result-end : goal.slice_bounds-result-end
-slice_bounds-result-end c = sym (length-take-le 65536 c.args.bytes.now (omega (arith, c.if-bytes-gt-MAX_HEAD.true)))
-
-pub returns-else-bytes-gt-MAX_HEAD : goal.returns-else-bytes-gt-MAX_HEAD
-returns-else-bytes-gt-MAX_HEAD c = sym (take_all 65536 c.args.bytes.now (omega (arith, c.if-bytes-gt-MAX_HEAD.false)))
