@@ -1,8 +1,13 @@
+ghost use Rattle.std.specs.Prelude.{OnOk};
+ghost use Rattle.spm_cache_core.specs.Legal.{IsSession};
+
 use pub_proof::{Derivation, Line, ProofFault, check};
 use pub_set::Choices;
 use pub_term::{Incompat, Term};
 use serde_json::Value;
-use spm_key::Key;
+use spm_cache_core::{Asked, CacheState, SharedReply, Why};
+use spm_ident::Identity;
+use spm_key::{Body, Key, Reply};
 use spm_manifest::Manifest;
 use spm_outside::{Authority, Book, Entry};
 use spm_resolved::Resolved;
@@ -47,6 +52,8 @@ enum Input {
     Replies(Book),
     // A shelf, with requests to answer from it.
     Stock(Shelf, Items<Bytes>),
+    // Keys to ask for, and the reply that each lands.
+    Keys(Items<Key>, SharedReply),
 }
 
 // Reads a dump, and counts its needs and the closure of its first trait.
@@ -201,6 +208,56 @@ fn answer_all(alloc: Global, shelf: &Shelf, requests: &[Bytes]) -> Result<usize,
     Ok(length)
 }
 
+// The lists of the packages that the file names, one a line.
+fn keys_of(alloc: Global, text: &str) -> Result<Items<Key>, BenchError> {
+    let mut keys = Items::new(alloc);
+    for line in text.lines() {
+        let identity = Identity::parse(alloc, line).map_err(|_| BenchError::Refused)?;
+        keys.push(Key::List(identity))?;
+    }
+    Ok(keys)
+}
+
+// A reply without a body.
+fn empty_reply(alloc: Global) -> Result<SharedReply, NoMemory> {
+    let body = Body::Whole(Bytes::from_vec(Vec::new(alloc)));
+    SharedReply::new(alloc, Reply { status: 404, body })
+}
+
+// Asks for a key, and lands the reply where it is to be fetched.
+#[tactic(auto, using(crate::proofs::CacheLemmas::asked_session, crate::proofs::CacheLemmas::landed_session, crate::proofs::CacheLemmas::given_flight))]
+fn ask_once(state: &mut CacheState, key: &Key, reply: &SharedReply) -> Result<(), NoMemory>
+    requires { IsSession state.old.sessions state.old.history 0 }
+    ensures { OnOk result (IsSession state.new.sessions state.new.history 0) }
+{
+    state.is_legal();
+    let ticket = match state.ask(0, key)? {
+        Asked::Fetch(ticket) => ticket,
+        Asked::Cancelled(_) | Asked::Have(_) | Asked::Waiting => return Ok(()),
+    };
+    match reply.share() {
+        Ok(shared) => {
+            state.land(ticket, shared);
+            Ok(())
+        }
+        Err(NoMemory) => {
+            state.fail(ticket, Why::Memory);
+            Err(NoMemory)
+        }
+    }
+}
+
+// Asks nine times for each key, one key after the other, and counts what happened.
+fn fill_cache(alloc: Global, keys: &[Key], reply: &SharedReply) -> Result<usize, NoMemory> {
+    let mut state = CacheState::new(alloc, 1, 0)?;
+    for _round in 0..9 {
+        for key in keys {
+            ask_once(&mut state, key, reply)?;
+        }
+    }
+    Ok(state.history().len())
+}
+
 // What the piece needs of the file.
 fn input_of(alloc: Global, piece: &str, text: String) -> Result<Input, BenchError> {
     match piece {
@@ -214,6 +271,7 @@ fn input_of(alloc: Global, piece: &str, text: String) -> Result<Input, BenchErro
             Ok(Input::Lines(derivation, facts))
         }
         "lookup" => Ok(Input::Replies(book_of(alloc, text.as_str())?)),
+        "cache" => Ok(Input::Keys(keys_of(alloc, text.as_str())?, empty_reply(alloc)?)),
         "answer" | "list" => {
             let shelf = shelf_of(alloc, text.as_str())?;
             let requests = requests_of(alloc, &shelf, piece == "list")?;
@@ -241,6 +299,7 @@ fn run_once(alloc: Global, piece: &str, input: &Input) -> Result<usize, BenchErr
         Input::Lines(derivation, facts) => check_lines(alloc, derivation, facts.as_slice()),
         Input::Replies(book) => Ok(look_up(book)),
         Input::Stock(shelf, requests) => Ok(answer_all(alloc, shelf, requests.as_slice())?),
+        Input::Keys(keys, reply) => Ok(fill_cache(alloc, keys.as_slice(), reply)?),
     }
 }
 

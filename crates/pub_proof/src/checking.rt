@@ -1,6 +1,6 @@
 ghost use Rattle.std.specs.Prelude.{◌≡◌, ◌+◌, ◌-◌, ◌^◌, ◌<◌, ◌≤◌, [], length, map, IfOk};
 ghost use Rattle.pub_proof.specs.Checked.{at_line, checked_of, earlier_line, last_in, line_in, lines_after};
-ghost use Rattle.pub_proof.specs.Checks.{Checks, ChecksAll, terms_of};
+ghost use Rattle.pub_proof.specs.Checks.{Checks, ChecksAll, own_facts, terms_of};
 ghost use Rattle.pub_proof.specs.Formed.{AreFormed, IsFormed};
 ghost use Rattle.pub_proof.specs.Root.{is_on_root, is_refutation, is_root, root_of};
 ghost use Rattle.pub_proof.specs.Sound.{Follows, RefutesRoot};
@@ -67,6 +67,23 @@ fn all_lines(
         place = place_after(place, line);
     }
     Ok(derived)
+}
+
+impl Derivation {
+    /// What each line says, in their order, by the derivation's own facts.
+    ///
+    /// # Errors
+    ///
+    /// The first bad line with what is wrong with it, and want of memory.
+    pub fn said(&self, alloc: Global) -> Result<Items<Incompat>, ProofFault>
+        ensures checked { ChecksAll result (lines_after self.now.sizes (own_facts self.now.lines) [] self.now.lines) }
+        // What a line says has nodes that ascend, no set that is empty or whole, and sets of their nodes' sizes.
+        ensures formed { IfOk result (λ all. AreFormed self.now.sizes (terms_of all)) }
+    {
+        let facts = self.facts(alloc)?;
+        let (sizes, lines) = (self.sizes.as_slice(), self.lines.as_slice());
+        all_lines(alloc, sizes, facts.as_slice(), lines)
+    }
 }
 
 // The place of the first node that is named as the root.

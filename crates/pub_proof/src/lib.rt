@@ -12,6 +12,8 @@
 //! and where that line has no term no assignment at all does. Both rest on [`resolution_is_sound`](pub_term::resolution_is_sound),
 //! whose premise is that the assignment's choice on the node that is resolved is one of the node's.
 //!
+//! [`Derivation::said`] answers what each line says by the derivation's own facts, for whoever writes a derivation out.
+//!
 //! [`checked_is_checked`] says the same of a derivation as a whole (`IsChecked` of `specs/IsChecked.antt`), and
 //! [`checked_means_refuted`] that the two clauses hold of each derivation that is checked, whoever checked it. A file's bytes are
 //! read as `derivation_in` says (`specs/File.antt`), the first fault with its place and kind included, and written as `proof_text`

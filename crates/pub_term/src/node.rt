@@ -44,8 +44,8 @@ impl NodeName {
         }
     }
 
-    // The package, which the root doesn't have.
-    fn package(&self) -> Option<&Identity>
+    /// The package, which the root and its traits don't have.
+    pub fn package(&self) -> Option<&Identity>
         ensures { option_copied result ≡ package_of self.now }
     {
         match self {
@@ -54,8 +54,8 @@ impl NodeName {
         }
     }
 
-    // The trait's name, which a node that is no trait doesn't have.
-    fn trait_name(&self) -> Option<&TraitName>
+    /// The trait's name, which the root and a package don't have.
+    pub fn trait_name(&self) -> Option<&TraitName>
         ensures { option_copied result ≡ trait_of self.now }
     {
         match self {

@@ -1,4 +1,4 @@
-//! Tests of `pub_set`, `pub_term` and `pub_proof` over their public calls.
+//! Tests of `pub_set`, `pub_term`, `pub_proof` and `spm_explain` over their public calls.
 //!
 //! They stand here and not in the crates, since a crate with tests is proved twice. This crate has no code of its own.
 //!
@@ -9,6 +9,7 @@
 //! - derivations of three lines, each with the answer of `check`, by a table;
 //! - files of derivations, by tables: what `check` answers of them by their own facts, or the place and the kind of their first
 //!   fault, what is written of them, and whether any item of one may be another;
+//! - texts of derivations, by tables: a sentence for each cause, its escapes, and lines without terms;
 //! - one run of each call that can answer want of memory, where there is memory;
 //! - a set of thousands of choices.
 //!
@@ -18,6 +19,8 @@
 
 #[cfg(test)]
 mod derivations;
+#[cfg(test)]
+mod explain;
 #[cfg(test)]
 mod files;
 #[cfg(test)]

@@ -1,0 +1,16 @@
+pub mod Members
+pub mod KnownLemmas
+pub mod OutsideLemmas
+pub mod LoadLemmas
+pub mod MergeLemmas
+pub mod FactLemmas
+pub mod NumberingLemmas
+pub mod UnusableLemmas
+pub mod NamedLemmas
+pub mod Sets
+pub mod Worlds
+pub mod FirstLaw
+pub mod SecondLaw
+pub mod LoopLemmas
+pub mod PutLemmas
+pub mod Examples

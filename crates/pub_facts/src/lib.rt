@@ -1,0 +1,38 @@
+//! Which selections are valid and which is first, and the facts that say so to a solver.
+//!
+//! `specs/` has the definitions, over what the lists, lookups and manifests of a registry say (`specs/Catalogue.antt`): what a
+//! selection reaches and enables, as least sets (SE-0450, `specs/Enabled.antt`); when it is valid, need by need, with no solver
+//! (`specs/Valid.antt`); and when it is the first one, step by step (`specs/First.antt`). A solver sees nodes with choices
+//! instead: the root, packages and traits. What it learns when it loads a node at a choice are incompatibilities with their
+//! causes, which [`facts_of`] makes from a manifest, and [`unusable`] where the manifest can't be used.
+//!
+//! The contract that the layers above use is that of [`facts_of`]: it answers the facts of the load as `specs/Facts.antt` lists
+//! them, by the names of their nodes and in that order, written by the numbers of the nodes (`specs/Numbered.antt`): two terms on
+//! one node are intersected, a term of all choices is dropped, and a fact with an empty set is left out. [`named_by`] answers the
+//! nodes that a load names first, so that the caller can number them.
+//!
+//! Two laws tie the two sides: [`valid_selections_violate_nothing`] and [`unviolated_assignments_are_valid`].
+//!
+//! How the proof goes:
+//!
+//! - Each private call of `src/load.rt` puts the facts of one part of a load behind those before them; the loops keep that the
+//!   facts so far, with those of what is left, are all facts. `proofs/LoadLemmas` and `PutLemmas` put the parts together.
+//! - What a package may not be is the opposite of the ranks of what a requirement contains (`proofs/OutsideLemmas`).
+//! - Each fact has one of four shapes (`proofs/FactLemmas`), so each of its terms is a set of its node's size, and merging keeps
+//!   that (`proofs/MergeLemmas`).
+//! - For the first law, what is active in a valid selection is met, and so is each fact of its loads (`proofs/FirstLaw`). For the
+//!   second, what is reached is right by induction over the least sets (`proofs/SecondLaw`).
+#![tactic(auto)]
+
+mod cause;
+mod fact;
+mod known;
+mod laws;
+mod load;
+mod numbering;
+mod shared;
+
+pub use known::{Known, LoadPlace};
+pub use laws::{unviolated_assignments_are_valid, valid_selections_violate_nothing};
+pub use load::is_of;
+pub use numbering::{facts_of, named_by, unusable};

@@ -1,0 +1,9 @@
+pub mod KeyLemmas
+pub mod HistoryLemmas
+pub mod CellLemmas
+pub mod HintLemmas
+pub mod StateLemmas
+pub mod CellsLemmas
+pub mod AnswerLemmas
+pub mod LawLemmas
+pub mod TicketLemmas

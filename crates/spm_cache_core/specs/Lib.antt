@@ -1,0 +1,11 @@
+pub mod Cache
+pub mod Flight
+pub mod History
+pub mod Hints
+pub mod Answers
+pub mod Legal
+pub mod Calls
+pub mod Cells
+pub mod State
+pub mod Balance
+pub mod View
