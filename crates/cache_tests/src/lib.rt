@@ -1,4 +1,4 @@
-//! Tests of the cache's core over its public calls: `spm_cell` and `spm_cache_core`.
+//! Tests of the cache's crates over their public calls: `spm_turn`, `spm_cell` and `spm_cache_core`.
 //!
 //! They stand here and not in the crates, since a crate with tests is proved twice. What holds of every run is a clause or a law
 //! there. Here are
@@ -6,7 +6,8 @@
 //! - runs that were worked out by hand, event by event (`runs`): a script is lines, each a call, ` => ` and its answer, which a
 //!   [`stage::Stage`] plays; a further line costs no proof;
 //! - the largest cache, and a key of 65,536 bytes;
-//! - a cell's answers, and a reply's owners (`cells`). Each call that can answer want of memory is run where there is memory.
+//! - a cell's answers, and a reply's owners (`cells`). Each call that can answer want of memory is run where there is memory;
+//! - the turn lock in threads (`turn`).
 //!
 //! A call of the core has conditions. The stage sees before each call that they hold, by what `reads` finds in the history.
 #![tactic(auto)]
@@ -19,3 +20,5 @@ mod reads;
 mod runs;
 #[cfg(test)]
 mod stage;
+#[cfg(test)]
+mod turn;

@@ -104,8 +104,8 @@ fn lists_are_read(rt: HostRuntime) {
     assert_read(&rt, rt.alloc(), Reader::List, lists());
 }
 
-// A list of so many usable releases, and of some that have a problem.
-fn long_list(alloc: Global, usable: u32) -> Option<String> {
+/// A list of so many usable releases, and of some that have a problem.
+pub fn long_list(alloc: Global, usable: u32) -> Option<String> {
     let mut text = String::from_str(alloc, r#"{"releases":{"0.0.1":{"problem":{}}"#).ok()?;
     for number in 0..usable {
         write!(text, r#","1.{number}.0":{{}}"#).ok()?;

@@ -21,6 +21,8 @@ mod requests;
 #[cfg(test)]
 mod responses;
 #[cfg(test)]
+mod sayings;
+#[cfg(test)]
 mod servers;
 #[cfg(test)]
 mod shelves;

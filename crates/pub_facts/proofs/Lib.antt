@@ -1,10 +1,12 @@
 pub mod Members
 pub mod KnownLemmas
 pub mod OutsideLemmas
+pub mod ListSteps
 pub mod LoadLemmas
 pub mod MergeLemmas
 pub mod FactLemmas
-pub mod NumberingLemmas
+pub mod MergingLemmas
+pub mod NewNames
 pub mod UnusableLemmas
 pub mod NamedLemmas
 pub mod Sets
@@ -12,5 +14,4 @@ pub mod Worlds
 pub mod FirstLaw
 pub mod SecondLaw
 pub mod LoopLemmas
-pub mod PutLemmas
 pub mod Examples

@@ -1,6 +1,7 @@
 -- The loop that numbers facts.
 use Rattle.std.proofs.Common.{◌≡◌, ℕ, List, [], ◌∷◌, ◌++◌, map, All, Option, Some, None, refl, sym, ap, ◌∙◌, subst, append_assoc}
 use Rattle.std.specs.List.{cons_option}
+use Rattle.std.proofs.lemmas.List.Elements.{All-head, All-tail}
 use Rattle.pub_term.specs.declared.cause.Cause.{Cause}
 use Rattle.pub_term.specs.declared.node.NodeName.{NodeName}
 use Rattle.pub_term.specs.declared.term.Incompat.{Incompat}
@@ -24,3 +25,10 @@ numbered_step number facts next one rest found is made =
 pub formed_at : (sizes : List ℕ) (facts numbers : List (Incompat × Cause)) → facts ≡ numbers
     → All (λ (one : Incompat × Cause). IsFormed sizes one.0.terms) numbers → All (λ (one : Incompat × Cause). IsFormed sizes one.0.terms) facts
 formed_at sizes facts numbers is formed = subst (All (λ (one : Incompat × Cause). IsFormed sizes one.0.terms)) (sym is) formed
+
+-- what is said of all holds of the first, and of those behind it
+pub first_of_all : {X : Type 0} (P : X → Type 0) (one : X) (rest items : List X) → items ≡ one ∷ rest → All P items → P one
+first_of_all P one rest items is all = All-head P one rest (subst (All P) is all)
+
+pub rest_of_all : {X : Type 0} (P : X → Type 0) (one : X) (rest items : List X) → items ≡ one ∷ rest → All P items → All P rest
+rest_of_all P one rest items is all = All-tail P one rest (subst (All P) is all)

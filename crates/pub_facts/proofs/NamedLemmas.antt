@@ -9,7 +9,7 @@ use Rattle.pub_facts.specs.Numbered.{AreNamed, new_names, number_in, written_nod
 use Rattle.pub_facts.specs.declared.fact.Fact.{Fact}
 use Rattle.pub_facts.specs.declared.fact.Written.{Written}
 use Rattle.pub_facts.proofs.FactLemmas.{node_same}
-use Rattle.pub_facts.proofs.NumberingLemmas.{new_names_append}
+use Rattle.pub_facts.proofs.NewNames.{new_names_append}
 use Rattle.pub_facts.proofs.Members.{contains_cases, contains_nothing}
 
 -- a node that is among the names has a number
@@ -88,14 +88,8 @@ named_step known names next one rest is =
     more_named known names (map (λ (term : Written). term.node) one.terms) (written_nodes rest)
     ∙ ap (λ all. all ++ new_names (known ++ all) (written_nodes rest)) (sym is)
 
-dropped : {X : Type 0} (xs : List X) (i : ℕ) (x : X) → i < length xs → get_or xs i x ≡ x → drop i xs ≡ x ∷ drop (suc i) xs
-dropped [] i x below is = absurd (omega (arith, below))
-dropped (first ∷ xs) zero x below is = ap (λ z. z ∷ xs) is
-dropped (first ∷ xs) (suc i) x below is = dropped xs i x (omega (arith, below)) is
-
--- the item at a place, and those behind it
-pub drop_next : {X : Type 0} (xs : List X) (i : ℕ) (x : X) → i < length xs → get_or xs i x ≡ x → drop i xs ≡ x ∷ drop (i + 1) xs
-drop_next xs i x below is = dropped xs i x below is ∙ ap (λ n. x ∷ drop n xs) (one_more i)
-  where
-    one_more : (n : ℕ) → suc n ≡ n + 1
-    one_more n = omega arith
+-- the names of facts that are given in pieces
+pub names_are : (nodes known names : List NodeName) (written given facts : List Fact) → known ≡ nodes → given ≡ written → written ≡ facts
+    → names ≡ new_names known (written_nodes given) → names ≡ new_names nodes (written_nodes facts)
+names_are nodes known names written given facts is_known is_given is_written is =
+    is ∙ (ap (λ ns. new_names ns (written_nodes given)) is_known ∙ ap (λ fs. new_names nodes (written_nodes fs)) (is_given ∙ is_written))

@@ -1,15 +1,16 @@
 -- The choices of a package that a requirement doesn't contain.
-use Rattle.std.proofs.Common.{◌≡◌, ℕ, zero, suc, ◌+◌, ◌<◌, ◌==◌, ◌&&◌, ◌||◌, Bool, true, false, not, cond, List, [], ◌∷◌, All, length, refl, ap, ◌∙◌, subst, arith, eq-eqb, lt-ltb}
+use Rattle.std.proofs.Common.{◌≡◌, ℕ, zero, suc, ◌+◌, ◌<◌, ◌==◌, ◌&&◌, ◌||◌, Bool, true, false, not, cond, List, [], ◌∷◌, All, length, refl, ap, ap₂, ◌∙◌, subst, arith, eq-eqb, lt-ltb}
 use Rattle.std.specs.List.{slice_get}
 use Rattle.std.proofs.lemmas.Bool.{cond_both}
 use Rattle.std.proofs.lemmas.List.Elements.{All-cons, All-nil}
-use Rattle.pub_set.specs.Choices.{choices_of, is_among, opposite, set_where}
+use Rattle.pub_set.specs.Choices.{ChoiceSet, choices_of, is_among, opposite, set_where}
+use Rattle.pub_term.specs.declared.node.NodeName.TheVariants.{Package}
 use Rattle.pub_set.proofs.AscendingLemmas.{IsAscending-where, ascending_is_where, is_among-where}
 use Rattle.spm_version.specs.Release.{Parts}
 use Rattle.spm_version.specs.Requirement.{contains, places_from, ranks_of}
 use Rattle.spm_version.specs.declared.requirement.Requirement.{Requirement}
-use Rattle.pub_facts.specs.Catalogue.{release_at}
-use Rattle.pub_facts.specs.Facts.{is_inside}
+use Rattle.pub_facts.specs.Catalogue.{Lookups, release_at}
+use Rattle.pub_facts.specs.Facts.{is_inside, outside}
 
 -- no place is before the first
 among_later : (place k : ℕ) (requirement : Requirement) (list : List Parts) → k < place → is_among (places_from place requirement list) k ≡ false
@@ -89,3 +90,17 @@ pub outside_is : (requirement : Requirement) (list : List Parts)
     → opposite (choices_of (length list + 1) (ranks_of requirement list)) ≡ set_where (length list + 1) (λ choice. not (is_inside requirement (release_at list choice)))
 outside_is requirement list = where_same (length list + 1) _ _ (λ k below. ap not (is_among-where (length list + 1) (is_among (ranks_of requirement list)) k
     ∙ (ap (λ b. b && is_among (ranks_of requirement list) k) (lt-ltb k (length list + 1) below) ∙ among_ranks requirement list k)))
+
+one_more : (n : ℕ) → n + 1 ≡ suc n
+one_more n = omega arith
+
+-- a package is none or not contained, by the opposite of the ranks
+pub outside_at : (l : Lookups) (identity copy : List ℕ) (requirement : Requirement) (list : List Parts) (numbers : List ℕ) (inside choices : ChoiceSet)
+    → list ≡ l.list identity → numbers ≡ ranks_of requirement list → inside ≡ choices_of (length list + 1) numbers → choices ≡ opposite inside → copy ≡ identity
+    → record { node = Package copy; choices = choices } ≡ outside l identity requirement
+outside_at l identity copy requirement list numbers inside choices is_list is_numbers is_inside_it is_choices is_copy =
+    ap₂ (λ (i : List ℕ) (s : ChoiceSet). record { node = Package i; choices = s }) is_copy
+    (is_choices ∙ (ap opposite (is_inside_it ∙ ap (choices_of (length list + 1)) is_numbers)
+    ∙ (outside_is requirement list
+    ∙ (ap (λ n. set_where n (λ choice. not (is_inside requirement (release_at list choice)))) (one_more (length list))
+    ∙ ap (λ ps. set_where (suc (length ps)) (λ choice. not (is_inside requirement (release_at ps choice)))) is_list))))

@@ -2,11 +2,10 @@
 use Rattle.std.proofs.Common.{◌≡◌, ◌≢◌, ◌<◌, ◌==◌, ◌||◌, ◌&&◌, ℕ, zero, suc, true, false, not, List, [], ◌∷◌, map, All, Contains, Option, Some, None, refl, sym, ap, ◌∙◌, subst, arith, eq-eqb, lt-ltb}
 use Rattle.std.specs.List.{cons_option, filter}
 use Rattle.std.proofs.lemmas.Bool.{cond-false, cond-true}
-use Rattle.std.proofs.lemmas.List.Elements.{All-cons, All-head, All-nil, All-tail}
+use Rattle.std.proofs.lemmas.List.Elements.{All-cons, All-nil}
 use Rattle.pub_set.specs.Choices.{choices_of, has, is_among, is_empty, is_whole, numbers_below}
 use Rattle.pub_set.proofs.AscendingLemmas.{is_among-numbers_below, is_among-where}
 use Rattle.pub_set.proofs.StepLemmas.{list_all-out, list_any-here}
-use Rattle.pub_term.specs.Sized.{AreSized}
 use Rattle.pub_term.specs.declared.cause.Cause.{Cause}
 use Rattle.pub_term.specs.declared.node.NodeName.{NodeName}
 use Rattle.pub_term.specs.declared.node.NodeName.TheVariants.{Package}
@@ -16,6 +15,7 @@ use Rattle.spm_manifest.specs.declared.dump.Contents.{Contents}
 use Rattle.pub_facts.specs.Catalogue.{Lookups}
 use Rattle.pub_facts.specs.Facts.{Load, facts_in, load_of, only, size_of, unusable_fact}
 use Rattle.pub_facts.specs.Known.{IsInRange, IsThere}
+use Rattle.pub_facts.specs.Merging.{HaveSizes}
 use Rattle.pub_facts.specs.Numbered.{AreNamed, IsFormed, caused_of, incompat_in, incompat_of, number_in, numbered, sizes_of, term_of, unless_empty, with_cause}
 use Rattle.pub_facts.specs.declared.fact.Fact.{Fact}
 use Rattle.pub_facts.proofs.FactLemmas.{IsNumbered, fact_numbered}
@@ -106,25 +106,19 @@ facts_formed asked l load contents names named = each_formed l names (facts_in a
 
 -- ---- the loop over them
 
-all_numbered : (l : Lookups) (names : List NodeName) (facts : List Fact) → ((one : Fact) → Contains facts one → IsNumbered l names one)
-    → All (IsNumbered l names) facts
-all_numbered l names [] each = All-nil (IsNumbered l names)
-all_numbered l names (one ∷ facts) each =
-    All-cons (IsNumbered l names) one facts (each one (contains_head one facts))
-    (all_numbered l names facts (λ other there. each other (contains_tail one other facts there)))
+abbrev HasSizes : List NodeName → Fact → Type 0
+HasSizes names one = HaveSizes (map (term_of (number_in names)) one.terms)
 
--- all facts of a load are sized and sets
-pub load_numbered : (asked : List (List ℕ)) (l : Lookups) (load : Load) (contents : Contents) (names : List NodeName)
-    → AreNamed names (facts_in asked l load contents) → All (IsNumbered l names) (facts_in asked l load contents)
-load_numbered asked l load contents names named =
-    all_numbered l names (facts_in asked l load contents) (fact_numbered asked l load contents names named)
+all_sized : (l : Lookups) (names : List NodeName) (facts : List Fact) → ((one : Fact) → Contains facts one → IsNumbered l names one)
+    → All (HasSizes names) facts
+all_sized l names [] each = All-nil (HasSizes names)
+all_sized l names (one ∷ facts) each =
+    All-cons (HasSizes names) one facts (record { sizes = sizes_of l names; sized = (each one (contains_head one facts)).sized })
+    (all_sized l names facts (λ other there. each other (contains_tail one other facts there)))
 
--- the first of such facts is sized
-pub first_sized : (l : Lookups) (names : List NodeName) (one : Fact) (rest items : List Fact) → items ≡ one ∷ rest → All (IsNumbered l names) items
-    → AreSized (sizes_of l names) (map (term_of (number_in names)) one.terms)
-first_sized l names one rest items is all = (All-head (IsNumbered l names) one rest (subst (All (IsNumbered l names)) is all)).sized
-
--- and so are the others
-pub rest_numbered : (l : Lookups) (names : List NodeName) (one : Fact) (rest items : List Fact) → items ≡ one ∷ rest → All (IsNumbered l names) items
-    → All (IsNumbered l names) rest
-rest_numbered l names one rest items is all = All-tail (IsNumbered l names) one rest (subst (All (IsNumbered l names)) is all)
+-- the terms of all facts of a load have sizes
+pub load_sized : (asked : List (List ℕ)) (l : Lookups) (load : Load) (contents : Contents) (names : List NodeName) (written : List Fact)
+    → written ≡ facts_in asked l load contents → AreNamed names (facts_in asked l load contents)
+    → All (λ (one : Fact). HaveSizes (map (term_of (number_in names)) one.terms)) written
+load_sized asked l load contents names written is named =
+    subst (All (HasSizes names)) (sym is) (all_sized l names (facts_in asked l load contents) (fact_numbered asked l load contents names named))

@@ -4,5 +4,6 @@ pub mod Valid
 pub mod First
 pub mod Facts
 pub mod Numbered
+pub mod Merging
 pub mod Known
 pub mod Assigns

@@ -54,6 +54,15 @@ pub fn under_names(alloc: Global, place: &LoadPlace) -> Result<Items<TraitName>,
     Ok(under)
 }
 
+/// The load's owner, with the load's trait behind it, where it has one.
+pub fn own_subject(alloc: Global, known: &Known, place: &LoadPlace) -> Result<Subject, NoMemory>
+    ensures { IfOk result (λ subject. subject
+        ≡ subject_of (lookups_of known.now) (load_of place.now.node place.now.choice) (under_names (trait_of place.now.node))) }
+{
+    let under = under_names(alloc, place)?;
+    subject_of(alloc, known, place, under)
+}
+
 /// The load's trait, and the condition of what is asked, if it is another.
 pub fn under_both(
     alloc: Global,

@@ -9,7 +9,7 @@ use pub_set::Choices;
 use pub_term::{Cause, NodeName};
 use spm_ident::Identity;
 use spm_trait::TraitName;
-use spm_version::{Items, NoMemory, Requirement, ranks};
+use spm_version::{Duplicate, Items, NoMemory, Requirement, ranks};
 use std::alloc::Global;
 
 /// A term as it is written: a node by its name, with a set of its choices.
@@ -17,6 +17,15 @@ use std::alloc::Global;
 pub struct Written {
     pub node: NodeName,
     pub choices: Choices,
+}
+
+impl Duplicate for Written {
+    fn duplicate(&self, alloc: Global) -> Result<Written, NoMemory> {
+        Ok(Written {
+            node: self.node.copy(alloc)?,
+            choices: self.choices.copy(alloc)?,
+        })
+    }
 }
 
 /// A fact as it is written: two terms may be on one node.

@@ -1,4 +1,4 @@
-ghost use Rattle.std.specs.Prelude.{◌≡◌};
+ghost use Rattle.std.specs.Prelude.{◌≡◌, IfOk};
 ghost use Rattle.std.specs.Option.{option_copied};
 ghost use Rattle.pub_facts.specs.Catalogue.{target_of};
 ghost use Rattle.pub_facts.specs.Facts.{size_of};
@@ -9,7 +9,8 @@ use pub_term::NodeName;
 use spm_ident::Identity;
 use spm_manifest::{Need, Target};
 use spm_trait::TraitName;
-use spm_version::{Items, Release, Requirement, Text};
+use spm_version::{Items, NoMemory, Release, Requirement, Text};
+use std::alloc::Global;
 
 /// What is loaded: a node at a choice. The root is loaded at its choice 1, and a package at one of its releases, counted from 1;
 /// a trait is loaded at its owner's choice.
@@ -17,6 +18,23 @@ use spm_version::{Items, Release, Requirement, Text};
 pub struct LoadPlace {
     pub node: NodeName,
     pub choice: u32,
+}
+
+impl LoadPlace {
+    /// A copy of the place.
+    ///
+    /// # Errors
+    ///
+    /// `NoMemory` alone.
+    pub fn copy(&self, alloc: Global) -> Result<LoadPlace, NoMemory>
+        ensures { IfOk result (λ place. place ≡ self.now) }
+    {
+        let node = self.node.copy(alloc)?;
+        Ok(LoadPlace {
+            node,
+            choice: self.choice,
+        })
+    }
 }
 
 /// What is known when a node is loaded.
@@ -97,4 +115,68 @@ impl Known {
         }
         number
     }
+
+    /// A copy of what is known.
+    ///
+    /// # Errors
+    ///
+    /// `NoMemory` alone.
+    pub fn copy(&self, alloc: Global) -> Result<Known, NoMemory>
+        ensures { IfOk result (λ known. known ≡ self.now) }
+    {
+        let mut copy = Known::nothing(alloc);
+        copy.asked = self.asked.copy(alloc)?;
+        copy.lists = copy_of_lists(alloc, self.lists.as_slice())?;
+        copy.urls = copy_of_urls(alloc, self.urls.as_slice())?;
+        copy.nodes = self.nodes.copy(alloc)?;
+        Ok(copy)
+    }
+
+    // Nothing is known.
+    fn nothing(alloc: Global) -> Known {
+        Known {
+            asked: Items::new(alloc),
+            lists: Items::new(alloc),
+            urls: Items::new(alloc),
+            nodes: Items::new(alloc),
+        }
+    }
+}
+
+// A copy of packages with their lists.
+fn copy_of_lists(
+    alloc: Global,
+    lists: &[(Identity, Items<Release>)],
+) -> Result<Items<(Identity, Items<Release>)>, NoMemory>
+    ensures { IfOk result (λ copy. copy ≡ lists.now) }
+{
+    let mut copy = Items::new(alloc);
+    for (identity, list) in lists {
+        copy.push((identity.copy(alloc)?, list.copy(alloc)?))?;
+    }
+    Ok(copy)
+}
+
+// A copy of a package, where there is one.
+fn copy_of_package(alloc: Global, found: &Option<Identity>) -> Result<Option<Identity>, NoMemory>
+    ensures { IfOk result (λ copy. copy ≡ found.now) }
+{
+    match found {
+        None => Ok(None),
+        Some(identity) => Ok(Some(identity.copy(alloc)?)),
+    }
+}
+
+// A copy of URLs with their packages.
+fn copy_of_urls(
+    alloc: Global,
+    urls: &[(Text, Option<Identity>)],
+) -> Result<Items<(Text, Option<Identity>)>, NoMemory>
+    ensures { IfOk result (λ copy. copy ≡ urls.now) }
+{
+    let mut copy = Items::new(alloc);
+    for (url, package) in urls {
+        copy.push((url.copy(alloc)?, copy_of_package(alloc, package)?))?;
+    }
+    Ok(copy)
 }

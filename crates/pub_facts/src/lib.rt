@@ -15,8 +15,10 @@
 //!
 //! How the proof goes:
 //!
-//! - Each private call of `src/load.rt` puts the facts of one part of a load behind those before them; the loops keep that the
-//!   facts so far, with those of what is left, are all facts. `proofs/LoadLemmas` and `PutLemmas` put the parts together.
+//! - `src/clause.rt` and `src/load.rt` say a load's clauses, without the subject; each loop keeps that those so far, with those of
+//!   what is left, are all (`proofs/ListSteps`, `LoadLemmas`). Then the subject's terms are put before each.
+//! - `src/merging.rt` makes an incompatibility of a fact: the place of a term among the others is searched first
+//!   (`specs/Merging.antt`, `proofs/MergingLemmas`).
 //! - What a package may not be is the opposite of the ranks of what a requirement contains (`proofs/OutsideLemmas`).
 //! - Each fact has one of four shapes (`proofs/FactLemmas`), so each of its terms is a set of its node's size, and merging keeps
 //!   that (`proofs/MergeLemmas`).
@@ -25,10 +27,12 @@
 #![tactic(auto)]
 
 mod cause;
+mod clause;
 mod fact;
 mod known;
 mod laws;
 mod load;
+mod merging;
 mod numbering;
 mod shared;
 

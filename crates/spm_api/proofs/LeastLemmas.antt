@@ -17,15 +17,15 @@ use Rattle.spm_ident.specs.declared.identity.IdentFault.{IdentFault}
 use Rattle.spm_api.specs.Bodies.{IsLeastIdentity, lesser}
 
 -- an identity below another by its bytes
-abbrev is_below : List ℕ → List ℕ → Bool
+abbrev pub is_below : List ℕ → List ℕ → Bool
 is_below first second = is_lt (slice_cmp nat_cmp first second)
 
 -- texts have an order
-order : IsStrictWeakOrder is_below
+pub order : IsStrictWeakOrder is_below
 order = ranks_by nat_list_cmp_total (λ (text : List ℕ). text)
 
 -- a text isn't below itself
-not_itself : (text : List ℕ) → is_below text text ≡ false
+pub not_itself : (text : List ℕ) → is_below text text ≡ false
 not_itself text = elim (cases_Bool (is_below text text)) [ inl is ↦ order.one_way text text is | inr not ↦ not ]
 
 -- ---- one pass
@@ -41,15 +41,15 @@ least_after least [] = least
 least_after least (text ∷ texts) = least_after (with_identity (result_ok (identity_of text)) least) texts
 
 -- one of the texts names it
-abbrev IsNamed : List (List ℕ) → List ℕ → Type 0
+abbrev pub IsNamed : List (List ℕ) → List ℕ → Type 0
 IsNamed texts identity = (text : List ℕ) × Contains texts text × (identity_of text ≡ Ok identity)
 
 -- a text that is no identity
-abbrev IsNameless : List ℕ → Type 0
+abbrev pub IsNameless : List ℕ → Type 0
 IsNameless text = (identity : List ℕ) → identity_of text ≢ Ok identity
 
 -- what a text names isn't below the least
-abbrev NotBelow : List ℕ → List ℕ → Type 0
+abbrev pub NotBelow : List ℕ → List ℕ → Type 0
 NotBelow least text = (other : List ℕ) → identity_of text ≡ Ok other → is_below other least ≡ false
 
 -- what is found after this one: it, or one that is named, below neither it nor another that is named
@@ -59,11 +59,11 @@ IsLeastAfter before texts (Some least) =
     ((before ≡ Some least) ⊎ IsNamed texts least) × IfSome before (λ earlier. is_below earlier least ≡ false) × All (NotBelow least) texts
 
 -- what is named behind a text is named with it
-later : (text : List ℕ) (texts : List (List ℕ)) (identity : List ℕ) → IsNamed texts identity → IsNamed (text ∷ texts) identity
+pub later : (text : List ℕ) (texts : List (List ℕ)) (identity : List ℕ) → IsNamed texts identity → IsNamed (text ∷ texts) identity
 later text texts identity named = (named.0, (suc named.1.0, omega (arith, named.1.1), named.1.2), named.2)
 
 -- what the first text is, is named
-here : (text : List ℕ) (texts : List (List ℕ)) (identity : List ℕ) → identity_of text ≡ Ok identity → IsNamed (text ∷ texts) identity
+pub here : (text : List ℕ) (texts : List (List ℕ)) (identity : List ℕ) → identity_of text ≡ Ok identity → IsNamed (text ∷ texts) identity
 here text texts identity is = (text, (0, omega arith, refl), is)
 
 -- the lesser is one of the two, and neither is below it

@@ -1,7 +1,11 @@
+pub mod AscendingLemmas
 pub mod CatalogueLemmas
 pub mod DistinctLemmas
 pub mod FetchLemmas
+pub mod LeastIdentity
 pub mod LeastLemmas
 pub mod NewestLemmas
 pub mod ReplyLaws
+pub mod SaidLaws
+pub mod SaidLemmas
 pub mod SlashLemmas

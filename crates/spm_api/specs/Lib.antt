@@ -4,3 +4,5 @@ pub mod Base
 pub mod Endpoint
 pub mod Refused
 pub mod Guess
+pub mod Said
+pub mod SaidParts

@@ -10,3 +10,5 @@ pub mod ResponseHeads
 pub mod Lengths
 pub mod SizeLines
 pub mod OneAnswer
+pub mod Told
+pub mod SomeAnswer

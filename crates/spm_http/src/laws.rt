@@ -21,3 +21,8 @@ pub fn a_response_is_heard_one_way()
     ensures { (limit : ℕ) (bytes : List ℕ) (first second : Heard)
         → Hears (Ok first) limit bytes → Hears (Ok second) limit bytes → first ≡ second }
 {}
+
+/// Each response is heard as something, whatever its bytes are.
+pub fn every_response_is_heard()
+    ensures { (limit : ℕ) (response : List ℕ) → (what : Heard) × Hears (Ok what) limit response }
+{}

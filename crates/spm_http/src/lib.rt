@@ -4,7 +4,8 @@
 //! head of a request: `ReadsHead` of `specs/Request.antt` says which answer comes, over `httparse`'s grammar of heads.
 //! [`read_response`] reads a response, with a limit on its body: `Hears` of `specs/Response.antt` says what it answers, over the same
 //! grammar and that of the lines before chunks. Both leave one answer, as [`a_request_is_one_head`] and
-//! [`a_response_is_heard_one_way`] say.
+//! [`a_response_is_heard_one_way`] say, and a response is always heard as something ([`every_response_is_heard`]: whether a head stands
+//! in the bytes can be told, since each piece of the grammar is there or isn't, `proofs/Told.antt`).
 //!
 //! The proof of the writing is that of its `format!` and, for a response, that the lines and then the body are the whole, and that
 //! a number that is no status has no phrase (`proofs/Phrases.antt`).
@@ -43,7 +44,7 @@ mod request_head;
 mod response_head;
 mod writing;
 
-pub use laws::{a_request_is_one_head, a_response_is_heard_one_way};
+pub use laws::{a_request_is_one_head, a_response_is_heard_one_way, every_response_is_heard};
 pub use limits::MAX_HEAD;
 pub use request_head::{HttpFault, RequestHead, read_request};
 pub use response_head::{Heard, read_response};

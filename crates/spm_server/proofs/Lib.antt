@@ -10,3 +10,8 @@ pub mod TargetLemmas
 pub mod RoundTripLaw
 pub mod PagesLemmas
 pub mod ServingLemmas
+pub mod ReadBack
+pub mod Sums
+pub mod ShelvedBodies
+pub mod ShelvedLists
+pub mod ShelvedLaw

@@ -12,7 +12,7 @@ use Rattle.std.proofs.lemmas.List.Elements.{All-nil, All-cons, All-head, All-tai
 use Rattle.std.proofs.lemmas.Bool.Decides.{nat_tests}
 use Rattle.std.proofs.lemmas.List.Sums.{AllPass-from_list_all, passes_at_first, split_at_first}
 use Rattle.std.proofs.lemmas.Bool.{agree_below_at}
-use Rattle.std.proofs.lemmas.Str.{IsUtf8-from_ascii, is_utf8-from_IsUtf8}
+use Rattle.std.proofs.lemmas.Str.{IsUtf8-append, IsUtf8-from_ascii, is_utf8-from_IsUtf8}
 use Rattle.std.proofs.lemmas.Str.Ascii.{IsAscii-from_all}
 use Rattle.spm_key.proofs.EncodedLemmas.{decoded}
 use Rattle.spm_server.specs.Keys.{HasPlainVersion}
@@ -437,3 +437,23 @@ path_asks (key.Manifest identity release) is plain = manifest_asks identity is.0
 path_asks (key.Release identity release) is plain = last_asks identity is.0 release is.1 [] nothing_part (Some (key.Release identity release)) (release_last identity release is.1 plain)
 path_asks (key.Archive identity release) is plain = last_asks identity is.0 release is.1 (codes ".zip") zip_part (Some (key.Archive identity release)) (archive_last identity release is.1)
 path_asks (key.Identifiers url) is plain = url_asks url is
+
+-- ---- texts
+
+-- a version is text
+pub version_is_text : (release : Parts) → IsValid release → IsUtf8 (parts_text release)
+version_is_text release valid = path_is_text (parts_text release) (by_class is_version_byte is_path_byte version_low refl (parts_text release) (version_bytes release valid))
+
+-- and so are the scope and the name of an identity
+pub scope_is_text : (identity : List ℕ) → IsIdentity identity → IsUtf8 (scope_of identity)
+scope_is_text identity is = path_is_text (scope_of identity) (by_class is_scope_byte is_path_byte scope_low refl (scope_of identity) (scope_bytes identity is))
+
+pub name_is_text : (identity : List ℕ) → IsIdentity identity → IsUtf8 (name_of identity)
+name_is_text identity is = path_is_text (name_of identity) (by_class is_name_byte is_path_byte name_low refl (name_of identity) (name_bytes identity is))
+
+-- and the whole
+pub identity_is_text : (identity : List ℕ) → IsIdentity identity → IsUtf8 identity
+identity_is_text identity is =
+    subst IsUtf8 (whole_identity identity is)
+    (IsUtf8-append (scope_of identity) (46 ∷ name_of identity) (scope_is_text identity is)
+    (IsUtf8-append (46 ∷ []) (name_of identity) (path_is_text (46 ∷ []) (AllPass-from_list_all is_path_byte (46 ∷ []) refl)) (name_is_text identity is)))

@@ -6,4 +6,5 @@ pub mod Content
 pub mod Answer
 pub mod RoundTrip
 pub mod Pages
+pub mod Shelved
 pub mod Serving

@@ -9,6 +9,8 @@
 //! - [`an_answer_comes_back`] is the law of the round trip (`specs/RoundTrip.antt`): the request for a key has an answer, and that
 //!   is read, by `reply_of` of `spm_api`, as the shelf's contents where the shelf has the resource, else as 404.
 //!   [`a_request_has_one_answer`] says that the table is a function.
+//! - [`a_book_says_its_shelf`] says what the book says of a key, once the reply is read: what the shelf says of it, in the shelf's parts
+//!   (`specs/Shelved.antt`). It stands on the round trip and on reading back the JSON that is written (`proofs/ReadBack.antt`).
 //!
 //! How the law goes:
 //!
@@ -34,7 +36,7 @@ mod serving;
 mod target;
 
 pub use answering::answer;
-pub use laws::{a_request_has_one_answer, an_answer_comes_back};
+pub use laws::{a_book_says_its_shelf, a_request_has_one_answer, an_answer_comes_back};
 pub use pages::book;
 pub use plain::is_plain_base;
 pub use serving::{ServeFault, serve_connection};

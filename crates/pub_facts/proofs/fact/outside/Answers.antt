@@ -1,6 +1,6 @@
 use Rattle.std.proofs.Common.{rules}
 use Rattle.pub_facts.specs.Known.{lookups_of}
-use Rattle.pub_facts.proofs.PutLemmas.{outside_at}
+use Rattle.pub_facts.proofs.OutsideLemmas.{outside_at}
 use Rattle.pub_facts.proofs.fact.outside.Goals as goal
 
 pub returns : goal.returns

@@ -1,0 +1,5 @@
+pub mod Answers
+pub mod Loading
+pub mod Choosing
+pub mod Plain
+pub mod Stops

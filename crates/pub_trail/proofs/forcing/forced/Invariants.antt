@@ -1,0 +1,13 @@
+use Rattle.std.proofs.Common.{◌≡◌, ◌≤◌, length, take}
+use Rattle.pub_trail.specs.Forced.{kept_forced}
+use Rattle.pub_trail.specs.Walk.{terms_of}
+use Rattle.pub_trail.proofs.forcing.forced.Given as goal
+
+abbrev pub invariant-loop-place : goal.invariant-loop-place
+invariant-loop-place l = record {
+  within : l.place ≤ length l.incompats;
+  left : kept_forced l.left 0 (take l.place (terms_of l.incompats)) ≡ kept_forced l.left 0 (terms_of l.incompats);
+}
+
+abbrev pub decreases-loop-place : goal.decreases-loop-place
+decreases-loop-place l = l.place

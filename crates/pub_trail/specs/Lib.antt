@@ -1,0 +1,13 @@
+pub mod Trail
+pub mod Turn
+pub mod Invariant
+pub mod Outcome
+pub mod Measure
+pub mod First
+pub mod KnownOf
+pub mod Forced
+pub mod Required
+pub mod Walk
+pub mod Derived
+pub mod Renamed
+pub mod Selection

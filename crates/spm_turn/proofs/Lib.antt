@@ -1,0 +1,15 @@
+pub mod Booleans
+pub mod Rows
+pub mod Numbers
+pub mod Follows
+pub mod Marks
+pub mod Apart
+pub mod Stages
+pub mod Rules
+pub mod TurnSteps
+pub mod CountSteps
+pub mod SeatSteps
+pub mod Ends
+pub mod Held
+pub mod Seats
+pub mod Places
