@@ -1,0 +1,4 @@
+pub mod Passing
+pub mod Calls
+pub mod Work
+pub mod Seated
