@@ -7,7 +7,7 @@ use Rattle.pub_term.specs.declared.term.Term.{Term}
 use Rattle.pub_trail.specs.Invariant.{AreRules, IsAlmost, IsFormed, IsReason, IsSettled, IsSmall, IsState, IsWithin, Limits}
 use Rattle.pub_trail.specs.Measure.{Ends, IsLast, all_choices, all_digits, choices_left, is_busy, measure_of, present_digit}
 use Rattle.pub_trail.specs.Trail.{holds, level_of, up_to}
-use Rattle.pub_trail.specs.Turn.{Conflict, Refutes, Learns, Forced, Loaded, Loading, Lacks, Passes, Brings, Next, Rules, State, Step, Turn, Went, Needs, TooWide, Selected, Refuted, after_conflict, after_forced, after_load, conflict, decided, is_loaded, learned, learned_origin, newest_forced, newest_from, root_place, run_on, turn_of}
+use Rattle.pub_trail.specs.Turn.{Conflict, Refutes, Learns, Forced, Loading, Lacks, Passes, Brings, Next, Rules, State, Step, Turn, Went, Needs, TooWide, Selected, Refuted, after_conflict, after_forced, after_load, conflict, decided, is_loaded, learned, learned_origin, newest_forced, newest_from, root_place, run_on, turn_of}
 use Rattle.pub_trail.specs.declared.origin.Origin.{Origin}
 use Rattle.pub_trail.specs.declared.trail.Assigned.{Assigned}
 use Rattle.pub_trail.specs.declared.trail.Place.{Place}

@@ -1,5 +1,5 @@
 -- What is almost satisfied, by what is kept of the nodes and by the trail.
-use Rattle.std.proofs.Common.{◌≡◌, ℕ, ◌+◌, ◌-◌, ◌<◌, ◌≤◌, Bool, true, false, not, cond, List, [], ◌∷◌, ◌++◌, length, get_or, take, slice_index, Option, Some, None, option_map, refl, sym, ap, ap₂, ◌∙◌, inl, inr, arith}
+use Rattle.std.proofs.Common.{◌≡◌, ℕ, ◌+◌, ◌-◌, ◌<◌, ◌≤◌, Bool, true, false, not, cond, List, [], ◌∷◌, ◌++◌, length, get_or, take, Option, Some, None, option_map, refl, sym, ap, ap₂, ◌∙◌, arith}
 use Rattle.std.specs.List.{filter}
 use Rattle.std.proofs.lemmas.Bool.{cond_both}
 use Rattle.std.proofs.lemmas.List.{get_or-map, length-map, length-take-le, take_more}
@@ -18,7 +18,7 @@ use Rattle.pub_trail.specs.Turn.{Forced, almost, forced_by, newest_forced, or_so
 use Rattle.pub_trail.specs.Turn as turn
 use Rattle.pub_trail.specs.Walk.{terms_of}
 use Rattle.pub_trail.specs.declared.trail.Assigned.{Assigned}
-use Rattle.pub_trail.proofs.NewestLemmas.{IsOne, one_is}
+use Rattle.pub_trail.proofs.NewestLemmas.{one_is}
 
 -- ---- one incompatibility
 

@@ -1,6 +1,6 @@
 -- The opening state is one of the solver's; and a refutation is violated wherever the root has its choice.
-use Rattle.std.proofs.Common.{◌≡◌, ℕ, zero, suc, ◌<◌, ◌==◌, ◌&&◌, Bool, true, false, List, [], ◌∷◌, length, slice_index, Contains, Option, Some, refl, sym, ap, ◌∙◌, subst, inl, inr, arith, eqb-true}
-use Rattle.std.proofs.lemmas.Bool.{and_parts, cases_eq, false≢true}
+use Rattle.std.proofs.Common.{◌≡◌, ℕ, zero, suc, ◌<◌, ◌==◌, true, List, [], ◌∷◌, slice_index, Some, refl, sym, ap, ◌∙◌, subst, inl, inr, arith, eqb-true}
+use Rattle.std.proofs.lemmas.Bool.{and_parts, cases_eq}
 use Rattle.pub_set.specs.Choices.{ChoiceSet, choices_of, has, is_among}
 use Rattle.pub_term.specs.Term.{set_at, violates}
 use Rattle.pub_term.specs.declared.node.NodeName.TheVariants.{Root}

@@ -1,5 +1,5 @@
 -- Each turn keeps that decisions are first choices, and where none is next the decisions are a selection.
-use Rattle.std.proofs.Common.{◌≡◌, ℕ, ◌+◌, ◌<◌, ◌==◌, true, false, not, nat_lt, List, [], ◌∷◌, ◌++◌, length, slice_index, slice_index_or, Contains, Option, Some, None, refl, sym, ap, ◌∙◌, subst, inl, inr, append-nil, eqb-true, eq-eqb}
+use Rattle.std.proofs.Common.{◌≡◌, ℕ, ◌+◌, ◌<◌, ◌==◌, true, false, not, nat_lt, List, [], ◌∷◌, ◌++◌, length, slice_index, slice_index_or, Contains, Some, None, refl, sym, ap, ◌∙◌, subst, inl, inr, append-nil, eqb-true, eq-eqb}
 use Rattle.std.specs.List.{filter}
 use Rattle.std.proofs.lemmas.Bool.{and_from, false≢true, lt-ltb, or_cases, or_left}
 use Rattle.std.proofs.lemmas.List.Elements.{Contains-append_cases, Contains-append_left}
@@ -12,7 +12,7 @@ use Rattle.pub_trail.specs.First.{AreBound, AreChoices, AreFirstRules, IsBest, I
 use Rattle.pub_trail.specs.Invariant.{AreFormed, AreRules, IsAlmost, IsAssignment, IsFormed, IsReason, IsSettled, IsState, IsTrail, Limits, ViolatesNone}
 use Rattle.pub_trail.specs.Selection.{IsChosenAfter}
 use Rattle.pub_trail.specs.Trail.{allows, holds, level_of, up_to}
-use Rattle.pub_trail.specs.Turn.{Conflict, Refutes, Learns, Forced, Loaded, Loading, Lacks, Passes, Brings, Next, Rules, State, after_conflict, after_forced, after_load, conflict, decided, root_place, turn_of}
+use Rattle.pub_trail.specs.Turn.{Conflict, Refutes, Learns, Forced, Loading, Lacks, Passes, Brings, Next, Rules, State, after_conflict, after_forced, after_load, conflict, decided, root_place, turn_of}
 use Rattle.pub_trail.specs.declared.trail.Assigned.{Assigned}
 use Rattle.pub_trail.specs.declared.trail.Place.{Place}
 use Rattle.pub_trail.specs.declared.trail.Reason.{Reason}

@@ -7,7 +7,7 @@ use Rattle.pub_term.specs.Term.{violates}
 use Rattle.pub_term.specs.declared.term.Term.{Term}
 use Rattle.pub_trail.specs.Invariant.{AreFormed, AreRules, Begins, IsAlmost, IsFormed, IsSettled, IsState, Limits, ViolatesNone}
 use Rattle.pub_trail.specs.Trail.{holds, level_of, up_to}
-use Rattle.pub_trail.specs.Turn.{Conflict, Refutes, Learns, Forced, Loaded, Loading, Lacks, Passes, Brings, Next, Rules, State, Step, Turn, Selected, after_conflict, after_forced, after_load, after_next, almost, conflict, conflict_or_force, decided, force_or_next, is_loaded, learned, learned_origin, newest_forced, newest_from, root_place, turn_of}
+use Rattle.pub_trail.specs.Turn.{Conflict, Refutes, Learns, Forced, Loading, Lacks, Passes, Brings, Next, Rules, State, Step, Turn, Selected, after_conflict, after_forced, after_load, after_next, almost, conflict, conflict_or_force, decided, force_or_next, is_loaded, learned, learned_origin, newest_forced, newest_from, root_place, turn_of}
 use Rattle.pub_trail.specs.declared.trail.Assigned.{Assigned}
 use Rattle.pub_trail.specs.declared.trail.Place.{Place}
 use Rattle.pub_trail.specs.declared.trail.Reason.TheVariants.{Decided, Derived}

@@ -1,7 +1,7 @@
 -- What is almost satisfied, by the choices that are kept for each node.
 use Rattle.std.specs.Prelude.{ℕ, ◌+◌, List, [], ◌∷◌, not, Option, Some, None, if◌then◌else◌}
 use Rattle.std.specs.List.{filter}
-use Rattle.pub_set.specs.Choices.{ChoiceSet, do_meet, opposite}
+use Rattle.pub_set.specs.Choices.{ChoiceSet, do_meet}
 use Rattle.pub_term.specs.Known.{is_held, known_at}
 use Rattle.pub_term.specs.declared.term.Term.{Term}
 use Rattle.pub_trail.specs.Turn.{Forced, forced_by, or_some}

@@ -2,8 +2,7 @@
 use Rattle.std.specs.Prelude.{List, map}
 use Rattle.pub_term.specs.declared.term.Incompat.{Incompat}
 use Rattle.pub_term.specs.declared.term.Term.{Term}
-use Rattle.pub_trail.specs.Turn.{Conflict, Refutes, Learns, Step}
-use Rattle.pub_trail.specs.declared.walk.Cited.{Cited}
+use Rattle.pub_trail.specs.Turn.{Conflict, Refutes, Learns}
 use Rattle.pub_trail.specs.declared.walk.Ending.{Ending}
 use Rattle.pub_trail.specs.declared.walk.Ending.TheVariants.{Refuted, Learned}
 

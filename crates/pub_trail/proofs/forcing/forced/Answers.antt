@@ -1,8 +1,6 @@
-use Rattle.std.proofs.Common.{◌≡◌, ◌∙◌, ◌-◌, ℕ, Option, Some, None, ap, arith, option_map, subst, sym}
+use Rattle.std.proofs.Common.{◌≡◌, ◌∙◌, ◌-◌, ℕ, Some, None, ap, arith, option_map, subst, sym}
 use Rattle.std.specs.Option.{option_copied}
 use Rattle.pub_set.specs.Choices.{ChoiceSet}
-use Rattle.pub_term.specs.Term.{set_at}
-use Rattle.pub_term.specs.declared.term.Term.{Term}
 use Rattle.pub_trail.specs.Forced.{kept_forced}
 use Rattle.pub_trail.specs.KnownOf.{CanHold}
 use Rattle.pub_trail.specs.Turn.{Forced, forced_entry}

@@ -1,4 +1,4 @@
-use Rattle.std.proofs.Common.{◌≡◌, ◌≤◌, ◌-◌, [], length, reverse, take}
+use Rattle.std.proofs.Common.{◌≤◌, ◌-◌, [], length, reverse, take}
 use Rattle.pub_trail.specs.Required.{AreDecisions}
 use Rattle.pub_trail.proofs.required.decisions.Given as goal
 

@@ -1,7 +1,6 @@
 use Rattle.std.proofs.Common.{◌≡◌, ◌∙◌, ◌+◌, Bool, Global, Vec, [], arith, get_or, length, subst, sym}
-use Rattle.pub_trail.specs.Required.{AreAmong, decision_in, loaded_facts}
+use Rattle.pub_trail.specs.Required.{decision_in, loaded_facts}
 use Rattle.pub_trail.specs.Walk.{terms_of}
-use Rattle.pub_term.specs.declared.term.Incompat.{Incompat}
 use Rattle.pub_trail.proofs.RequiredLemmas.{AreMarking-none_yet, Marks, get_or_same, learned_step, marks_end, none_step, some_step}
 use Rattle.pub_trail.proofs.required.marked.Goals as goal
 use Rattle.pub_trail.proofs.required.marked.Goals.{in-OfLoad+in-Some, in-OfLoad+in_default-required_in, in_default}

@@ -1,4 +1,4 @@
-use Rattle.std.proofs.Common.{◌∙◌, ◌+◌, ◌∷◌, ◌++◌, [], ap, arith, length, refl, reverse, set, subst, sym, take}
+use Rattle.std.proofs.Common.{◌∙◌, ◌+◌, ap, arith, length, refl, reverse, set, subst, sym, take}
 use Rattle.std.proofs.lemmas.List.{get_or_read, length_push}
 use Rattle.pub_set.specs.Choices.{intersection, no_choices}
 use Rattle.pub_trail.specs.KnownOf.{AreBefore, AreLeft, IsEntry}
