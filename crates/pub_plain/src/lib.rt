@@ -7,8 +7,8 @@
 //! the others from the greatest down. With that as its rules, a turn is `pub_trail`'s, and `plain_after` (`specs/Plain.antt`) is what so
 //! many turns from the opening come to.
 //!
-//! The layers above use the definitions, and two laws: [`a_turn_needs_what_is_not_given`] and [`a_solver_opens_right`]. The solver's calls
-//! aren't here yet.
+//! The layers above use the definitions, and two laws: [`a_turn_needs_what_is_not_given`] and [`a_solver_opens_right`]. Of the solver's
+//! calls only the preference is here yet: [`pin_of`] and [`preferred`], the first of a package's preferred choices that is left.
 //!
 //! How the proof goes: a predicate of what a load comes to holds of each thing that is read, from the last to the first
 //! (`proofs/StopLemmas`), and of a turn by its cases. Worked runs compute (`proofs/Examples`): their counts of turns, what they pin, and
@@ -16,5 +16,7 @@
 #![tactic(auto)]
 
 mod laws;
+mod preference;
 
 pub use laws::{a_solver_opens_right, a_turn_needs_what_is_not_given};
+pub use preference::{pin_of, preferred};
