@@ -218,8 +218,12 @@ fn keys_of(alloc: Global, text: &str) -> Result<Items<Key>, BenchError> {
     Ok(keys)
 }
 
-// A reply without a body.
-fn empty_reply(alloc: Global) -> Result<SharedReply, NoMemory> {
+/// A reply without a body.
+///
+/// # Errors
+///
+/// `NoMemory` alone.
+pub fn empty_reply(alloc: Global) -> Result<SharedReply, NoMemory> {
     let body = Body::Whole(Bytes::from_vec(Vec::new(alloc)));
     SharedReply::new(alloc, Reply { status: 404, body })
 }

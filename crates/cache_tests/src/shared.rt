@@ -1,4 +1,4 @@
-//! The shared cache in threads: two sessions ask for the same keys.
+//! The shared cache in threads: two sessions ask for the same keys, in no order or in one that is forced.
 ghost use Rattle.std.specs.Prelude.{◌≡◌, [], ◌∷◌, IfOk};
 ghost use Rattle.cache_tests.specs.Ready.{IsReady};
 ghost use Rattle.spm_cache.specs.Passing.{newcomers};
@@ -7,10 +7,19 @@ ghost use Rattle.spm_cache_core.specs.Legal.{IsFlight};
 use spm_cache::{Cache, Pass};
 use spm_cache_core::{Act, AskNote, Asked, CacheState, Event, SharedReply, Ticket, Why};
 use spm_key::{Body, Key, Reply};
-use spm_version::{NoMemory, Text};
+use spm_version::{Bytes, NoMemory, Text};
 use std::alloc::Global;
-use std::sync::Wait;
+use std::sync::{Barrier, Wait};
 use std::thread::{Threads, join};
+
+// The body of each reply that lands.
+const BODY: &[u8] = b"a reply";
+
+// A reply with that body.
+fn fetched(alloc: Global) -> Result<SharedReply, NoMemory> {
+    let body = Body::Whole(Bytes::from_slice(alloc, BODY)?);
+    SharedReply::new(alloc, Reply { status: 200, body })
+}
 
 // Lands a reply for the ticket.
 #[tactic(auto, using(crate::proofs::Ready::own_number))]
@@ -20,8 +29,7 @@ fn fetch<R: Wait>(rt: &R, alloc: Global, cache: &Cache, pass: &mut Pass, ticket:
     ensures ready { IsReady cache.now.id pass.new }
     ensures actor { pass.new.actor ≡ pass.old.actor }
 {
-    let body = Body::TooLong;
-    match SharedReply::new(alloc, Reply { status: 200, body }) {
+    match fetched(alloc) {
         Ok(reply) => cache.land(rt, pass, ticket, reply),
         Err(_) => cache.fail(rt, pass, ticket, Why::Memory),
     }
@@ -155,6 +163,119 @@ fn one_fails<R: Wait>(
     Ok(finish(cache, first, second))
 }
 
+// What a session was told.
+#[derive(Drop)]
+enum Told {
+    // Another fetches the key.
+    Waiting,
+    // The reply.
+    Have(SharedReply),
+    // Something else.
+    Other,
+}
+
+// Asks for the key once. What it is then given to fetch fails.
+#[tactic(auto, using(crate::proofs::Ready::own_number))]
+fn ask_once<R: Wait>(rt: &R, cache: &Cache, pass: &mut Pass, key: &Key) -> Result<Told, NoMemory>
+    requires ready { IsReady cache.now.id pass.old }
+    ensures ready { IsReady cache.now.id pass.new }
+{
+    match cache.ask(rt, pass, key)? {
+        Asked::Have(reply) => Ok(Told::Have(reply)),
+        Asked::Waiting => Ok(Told::Waiting),
+        Asked::Fetch(ticket) => {
+            cache.fail(rt, pass, ticket, Why::Link);
+            Ok(Told::Other)
+        }
+        Asked::Cancelled(_) => Ok(Told::Other),
+    }
+}
+
+// Asks first, and lands its reply once the other has asked too. The two meet when this one has asked, and when the other has.
+#[tactic(auto, using(crate::proofs::Ready::own_number))]
+fn fetch_first<R: Wait>(
+    rt: &R,
+    alloc: Global,
+    cache: &Cache,
+    mut pass: Pass,
+    key: &Key,
+    meetings: &Barrier,
+) -> Result<(), NoMemory>
+    requires ready { IsReady cache.now.id pass }
+{
+    let asked = cache.ask(rt, &mut pass, key);
+    meetings.wait(rt);
+    meetings.wait(rt);
+    match asked? {
+        Asked::Fetch(ticket) => fetch(rt, alloc, cache, &mut pass, ticket),
+        Asked::Have(_) | Asked::Waiting | Asked::Cancelled(_) => return Err(NoMemory),
+    }
+    Ok(())
+}
+
+// Asks once the other has asked, rests where it is told to wait, and asks again. What it was told, both times.
+fn ask_second<R: Wait>(
+    rt: &R,
+    cache: &Cache,
+    mut pass: Pass,
+    key: &Key,
+    meetings: &Barrier,
+) -> Result<(Told, Told), NoMemory>
+    requires ready { IsReady cache.now.id pass }
+{
+    meetings.wait(rt);
+    let told = ask_once(rt, cache, &mut pass, key);
+    meetings.wait(rt);
+    let told = told?;
+    if matches!(&told, Told::Waiting) {
+        cache.rest(rt, &mut pass);
+    }
+    let again = ask_once(rt, cache, &mut pass, key)?;
+    Ok((told, again))
+}
+
+// One session fetches a key, and the other asks for it meanwhile. What the other was told.
+fn one_waits<R: Threads + Wait + Sync>(
+    rt: &R,
+    alloc: Global,
+    cache: &Cache,
+    mut passes: Vec<Pass>,
+) -> Result<(Told, Told), NoMemory>
+    requires passes { passes.items ≡ newcomers cache.now.id 2 0 }
+{
+    let key = numbered(alloc, 7)?;
+    let meetings = Barrier::new(2);
+    let Some(second) = passes.pop() else {
+        return Err(NoMemory);
+    };
+    let Some(first) = passes.pop() else {
+        return Err(NoMemory);
+    };
+    let (key, meetings) = (&key, &meetings);
+    let (landed, told) = join(
+        rt,
+        move || -> Result<(), NoMemory>
+            requires { IsReady cache.now.id first }
+        { fetch_first(rt, alloc, cache, first, key, meetings) },
+        move || -> Result<(Told, Told), NoMemory>
+            requires { IsReady cache.now.id second }
+        { ask_second(rt, cache, second, key, meetings) },
+    );
+    landed?;
+    told
+}
+
+// Whether the other was told to wait, and then had the reply with its body.
+fn waited(told: &(Told, Told)) -> bool {
+    match told {
+        (Told::Waiting, Told::Have(reply)) => match &reply.reply().body {
+            Body::Whole(bytes) => bytes.as_slice() == BODY,
+            _ => false,
+        },
+        _ => false,
+    }
+}
+
 // How many asks were answered that the asker fetches, and how many replies landed.
 fn flights(history: &[Event]) -> [usize; 2] {
     let begun = history
@@ -180,4 +301,11 @@ fn a_fail_lets_the_other_session_begin(rt: HostRuntime) {
     let (cache, passes) = Cache::open(rt.alloc(), 2, 0).expect(&rt, "memory");
     let state = one_fails(&rt, rt.alloc(), cache, passes).expect(&rt, "memory");
     assert!(rt; flights(state.history()) == [2, 1]);
+}
+
+#[test]
+fn a_session_waits_for_the_reply_that_another_fetches(rt: HostRuntime) {
+    let (cache, passes) = Cache::open(rt.alloc(), 2, 0).expect(&rt, "memory");
+    let told = one_waits(&rt, rt.alloc(), &cache, passes).expect(&rt, "memory");
+    assert!(rt; waited(&told));
 }

@@ -13,7 +13,7 @@ use Rattle.pub_facts.proofs.NewNames.{new_names_append}
 use Rattle.pub_facts.proofs.Members.{contains_cases, contains_nothing}
 
 -- a node that is among the names has a number
-numbered_there : (names : List NodeName) (node : NodeName) → list_any (node_eq node) names ≡ true → number_in names node < length names
+pub numbered_there : (names : List NodeName) (node : NodeName) → list_any (node_eq node) names ≡ true → number_in names node < length names
 numbered_there [] node there = absurd (false≢true there)
 numbered_there (first ∷ names) node there = elim (cases_Bool (node_eq first node)) [
   | inl is ↦ (let n : number_in (first ∷ names) node ≡ 0 = cond-true (node_eq first node) 0 (suc (number_in names node)) is in omega (arith, n))

@@ -12,8 +12,8 @@ use spm_trait::TraitName;
 use spm_version::{Items, NoMemory, Release, Requirement, Text};
 use std::alloc::Global;
 
-// The release at a choice of a package, which the choice 0 doesn't have.
-fn release_at(list: &[Release], choice: u32) -> Option<&Release>
+/// The release at a choice of a package, which the choice 0 doesn't have.
+pub fn release_at(list: &[Release], choice: u32) -> Option<&Release>
     ensures { option_copied result ≡ release_at list.now choice }
 {
     if choice == 0 {

@@ -36,7 +36,8 @@ mod merging;
 mod numbering;
 mod shared;
 
+pub use cause::{own_subject, release_at};
 pub use known::{Known, LoadPlace};
 pub use laws::{unviolated_assignments_are_valid, valid_selections_violate_nothing};
-pub use load::is_of;
+pub use load::{is_declared, is_of};
 pub use numbering::{facts_of, named_by, unusable};

@@ -148,8 +148,8 @@ fn enabled_by<'e>(entries: &'e [TraitEntry], name: &TraitName) -> &'e [TraitName
     &[]
 }
 
-// Whether a trait has an entry, or is `default`, which needs none.
-fn is_declared(entries: &[TraitEntry], name: &TraitName) -> bool
+/// Whether a trait has an entry, or is `default`, which needs none.
+pub fn is_declared(entries: &[TraitEntry], name: &TraitName) -> bool
     ensures { result ≡ is_declared entries.now name.now }
 {
     if name.text() == "default" {

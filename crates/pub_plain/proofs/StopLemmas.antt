@@ -2,7 +2,7 @@
 use Rattle.std.proofs.Common.{◌≡◌, ℕ, ◌+◌, ◌==◌, ◌&&◌, List, [], ◌∷◌, ◌++◌, length, if◌then◌else◌, Option, Some, None, refl}
 use Rattle.std.proofs.lemmas.Bool.{cond_both}
 use Rattle.pub_facts.specs.Catalogue.{Job, Owner, contents_at, version_in}
-use Rattle.pub_facts.specs.Facts.{Load, facts_of, load_needs}
+use Rattle.pub_facts.specs.Facts.{Load, load_needs}
 use Rattle.pub_facts.specs.Numbered.{number_in, numbered}
 use Rattle.pub_term.specs.declared.node.NodeName.{NodeName}
 use Rattle.pub_trail.specs.Turn.{Conflict, Refutes, Learns, Loaded, Loading, Lacks, Passes, Brings, State, after_conflict, after_load, turn_of, root_place}
@@ -21,7 +21,7 @@ use Rattle.spm_trait.specs.Closure.{is_declared}
 use Rattle.spm_version.specs.Release.{Parts}
 use Rattle.pub_plain.specs.Answers.{Answers, catalogue_by, lookups_by}
 use Rattle.pub_plain.specs.Choosing.{Pins}
-use Rattle.pub_plain.specs.Loading.{brings, brought, is_package, load_at, loading, named_first, package_count, read_contents, read_list, read_manifest, read_needs, read_target, read_under, unless_wide, wide_in, with_list, with_lookup, with_manifest}
+use Rattle.pub_plain.specs.Loading.{brings, brought, facts_at, is_package, load_at, loading, named_first, package_count, read_contents, read_list, read_manifest, read_needs, read_target, read_under, unless_wide, wide_in, with_list, with_lookup, with_manifest}
 use Rattle.pub_plain.specs.Plain.{rules_of}
 use Rattle.pub_plain.specs.Stops.{LoadStops, TurnStops}
 
@@ -32,7 +32,7 @@ list_stops : (answers : Answers) (identity : List ℕ) (more : Loading) → Load
 list_stops answers identity more after = go (answers (key.List identity)) refl
   where
     go : (found : Option Said) → answers (key.List identity) ≡ found → LoadStops answers (with_list identity found more)
-    go None at = at
+    go None at = (at, tt)
     go (Some said.TooMany) at = at
     go (Some (said.Releases releases)) at = after
     go (Some (said.Package other)) at = after
@@ -48,7 +48,7 @@ lookup_stops answers url more after = go (λ identity. list_stops answers identi
   where
     go : ((identity : List ℕ) → LoadStops answers (read_list answers identity more)) → (found : Option Said) → answers (key.Identifiers url) ≡ found
         → LoadStops answers (with_lookup answers url found more)
-    go listed None at = at
+    go listed None at = (at, tt)
     go listed (Some (said.Package (Some identity))) at = listed identity
     go listed (Some (said.Package None)) at = after
     go listed (Some said.TooMany) at = after
@@ -93,7 +93,7 @@ manifest_stops answers (Some identity) None more after = after
 manifest_stops answers (Some identity) (Some release) more after = go (answers (key.Manifest identity release)) refl
   where
     go : (found : Option Said) → answers (key.Manifest identity release) ≡ found → LoadStops answers (with_manifest identity release found more)
-    go None at = at
+    go None at = (at, tt)
     go (Some it) at = after
 
 -- ---- limits
@@ -122,7 +122,7 @@ load_stops job answers names load =
     let more = brings job c names load in
     manifest_stops answers load.owner version (read_contents answers load.under contents more)
     (contents_stop answers load.under contents more (wide_stops answers (length names) (package_count names) (named_first job c names load)
-    (brought c.lookups (named_first job c names load) (numbered (number_in (names ++ named_first job c names load)) (facts_of job c load)))))
+    (brought c.lookups (named_first job c names load) (numbered (number_in (names ++ named_first job c names load)) (facts_at job c load)))))
 
 -- and so does a turn that loads
 after_stops : (answers : Answers) (state : State) (place : Place) (brought_to : Loading) → LoadStops answers brought_to

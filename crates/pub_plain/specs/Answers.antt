@@ -1,5 +1,5 @@
 -- What is said of the keys of a registry, as a solver sees it: total functions, with nothing where nothing is said.
-use Rattle.std.specs.Prelude.{ℕ, List, [], Option, Some, None, Result, Ok, Err}
+use Rattle.std.specs.Prelude.{◌≡◌, ◌≤◌, ℕ, List, [], length, Option, Some, None, Result, Ok, Err}
 use Rattle.spm_key.specs.Catalogue as replies
 use Rattle.spm_key.specs.declared.key.Key.{Key}
 use Rattle.spm_key.specs.declared.key.Key.TheVariants as key
@@ -44,6 +44,14 @@ catalogue_by answers = record {
   lookups = lookups_by answers;
   found = λ identity release. found_in (answers (key.Manifest identity release));
 }
+
+-- what is said of a key is said of it by the other answers too
+abbrev pub Carries : Answers → Answers → Type 0
+Carries answers more = (asked : Key) (said : Said) → answers asked ≡ Some said → more asked ≡ Some said
+
+-- no list that is given has more than 4,096 releases
+abbrev pub AreShort : Answers → Type 0
+AreShort answers = (identity : List ℕ) (list : List Parts) → answers (key.List identity) ≡ Some (said.Releases list) → length list ≤ 4096
 
 -- ---- of replies
 

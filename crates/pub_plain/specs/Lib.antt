@@ -3,3 +3,13 @@ pub mod Loading
 pub mod Choosing
 pub mod Plain
 pub mod Stops
+pub mod Given
+pub mod Solver
+pub mod Invariant
+pub mod Told
+pub mod Kept
+pub mod Next
+pub mod Turning
+pub mod Gives
+pub mod Derivation
+pub mod Writing

@@ -1,10 +1,11 @@
 -- A load over what is said of keys: the keys that it reads one after another, up to the first that isn't given or the first list that
 -- is too long; the nodes that it names and its facts; and the limits of what may be named.
-use Rattle.std.specs.Prelude.{ℕ, ◌+◌, ◌==◌, ◌&&◌, List, [], ◌∷◌, ◌++◌, map, length, get_or, Bool, true, false, Option, Some, None, if◌then◌else◌}
+use Rattle.std.specs.Prelude.{ℕ, ◌+◌, ◌==◌, ◌&&◌, List, [], ◌∷◌, ◌++◌, map, length, get_or, is_some, Bool, true, false, Option, Some, None, if◌then◌else◌}
 use Rattle.std.specs.List.{filter}
-use Rattle.pub_facts.specs.Catalogue.{Catalogue, Job, Lookups, Owner, contents_at, version_in}
+use Rattle.pub_facts.specs.Catalogue.{Catalogue, Job, Lookups, Owner, contents_at, release_at, version_in}
 use Rattle.pub_facts.specs.Facts.{Load, facts_of, load_needs, load_of}
 use Rattle.pub_facts.specs.Numbered.{new_names, number_in, numbered, sizes_of, written_nodes}
+use Rattle.pub_facts.specs.declared.fact.Fact.{Fact}
 use Rattle.pub_term.specs.declared.cause.Cause.{Cause}
 use Rattle.pub_term.specs.declared.node.NodeName.{NodeName}
 use Rattle.pub_term.specs.declared.node.NodeName.TheVariants.{Root, RootTrait, Package, PackageTrait}
@@ -103,9 +104,29 @@ name_at names number = get_or names number Root
 abbrev pub load_at : List NodeName → Place → Load
 load_at names place = load_of (name_at names place.node) place.choice
 
+-- the root and its traits are loaded at the choice 1, a package and its traits at one of its releases
+abbrev pub is_there : Lookups → Owner → ℕ → Bool
+is_there l None choice = choice == 1
+is_there l (Some identity) choice = is_some (release_at (l.list identity) choice)
+
+-- a trait is loaded where its owner can be used
+abbrev pub is_usable_under : Option (List ℕ) → Option Contents → Bool
+is_usable_under None contents = true
+is_usable_under (Some name) None = false
+is_usable_under (Some name) (Some contents) = true
+
+abbrev pub is_loadable : Job → Catalogue → Load → Bool
+is_loadable job c load =
+    is_there c.lookups load.owner load.choice
+    && is_usable_under load.under (contents_at job c load.owner (version_in c.lookups load.owner load.choice))
+
+-- the facts that a load brings; a load out of range, or of a trait whose owner can't be used, has none, and no solver comes to one
+abbrev pub facts_at : Job → Catalogue → Load → List Fact
+facts_at job c load = if is_loadable job c load then facts_of job c load else []
+
 -- the nodes that the load names first
 abbrev pub named_first : Job → Catalogue → List NodeName → Load → List NodeName
-named_first job c names load = new_names names (written_nodes (facts_of job c load))
+named_first job c names load = new_names names (written_nodes (facts_at job c load))
 
 abbrev pub terms_of : Incompat × Cause → List Term
 terms_of fact = fact.0.terms
@@ -124,7 +145,7 @@ unless_wide None loaded = Brings loaded
 abbrev pub brings : Job → Catalogue → List NodeName → Load → Loading
 brings job c names load =
     unless_wide (wide_in (length names) (package_count names) (named_first job c names load))
-    (brought c.lookups (named_first job c names load) (numbered (number_in (names ++ named_first job c names load)) (facts_of job c load)))
+    (brought c.lookups (named_first job c names load) (numbered (number_in (names ++ named_first job c names load)) (facts_at job c load)))
 
 abbrev pub loading_at : Job → Answers → List NodeName → Load → Option Parts → Loading
 loading_at job answers names load version =

@@ -3,6 +3,7 @@ use Rattle.std.specs.Prelude.{ℕ, [], ◌∷◌}
 use Rattle.pub_facts.specs.Catalogue.{Job}
 use Rattle.pub_set.specs.Choices.{choices_of}
 use Rattle.pub_term.specs.declared.node.NodeName.TheVariants.{Root}
+use Rattle.pub_trail.specs.Invariant.{Limits}
 use Rattle.pub_trail.specs.Turn.{Rules, State, Turn, Went, run_on}
 use Rattle.pub_trail.specs.declared.trail.Assigned.{Assigned}
 use Rattle.pub_trail.specs.declared.trail.Reason.TheVariants.{Decided}
@@ -16,6 +17,10 @@ rules_of job pins answers = record {
   load = λ state place. loading job answers state.names (load_at state.names place);
   next = λ state. next_in pins (lookups_by answers) state;
 }
+
+-- at most 4,096 nodes, and 4,096 releases of a package beside none
+abbrev pub plain_limits : Limits
+plain_limits = record { nodes = 4096; choices = 4097 }
 
 -- the root is chosen, at the first level
 abbrev pub root_entry : Assigned

@@ -1,14 +1,25 @@
 //! Laws of the definitions: each function here has one as its contract, and nothing calls them.
 ghost use Rattle.pub_facts.specs.Catalogue.{Job};
-ghost use Rattle.pub_plain.specs.Answers.{Answers};
+ghost use Rattle.pub_plain.specs.Answers.{Answers, AreShort, Carries, lookups_by};
 ghost use Rattle.pub_plain.specs.Choosing.{Pins};
-ghost use Rattle.pub_plain.specs.Plain.{opening, rules_of};
-ghost use Rattle.pub_plain.specs.Stops.{TurnStops};
+ghost use Rattle.pub_plain.specs.Derivation.{derivation_in, pins_in};
+ghost use Rattle.pub_plain.specs.Invariant.{IsSolver};
+ghost use Rattle.pub_plain.specs.Plain.{opening, plain_after, plain_limits, rules_of};
+ghost use Rattle.pub_plain.specs.Stops.{IsAnswered, TurnStops};
+ghost use Rattle.pub_proof.specs.Checked.{checked_of};
+ghost use Rattle.pub_proof.specs.Checks.{own_facts};
+ghost use Rattle.pub_term.specs.declared.cause.Cause.{Cause};
+ghost use Rattle.pub_term.specs.declared.term.Term.{Term};
 ghost use Rattle.pub_trail.specs.Derived.{IsHistory};
 ghost use Rattle.pub_trail.specs.First.{IsChosen, Preference};
-ghost use Rattle.pub_trail.specs.Invariant.{IsState};
-ghost use Rattle.pub_trail.specs.Turn.{State, turn_of};
-ghost use Rattle.std.specs.Prelude.{[]};
+ghost use Rattle.pub_trail.specs.Invariant.{AreRules, IsState};
+ghost use Rattle.pub_trail.specs.Measure.{IsLast};
+ghost use Rattle.pub_trail.specs.Turn.{Refuted, State, Step, Turn, Went, turn_of};
+ghost use Rattle.spm_version.specs.Release.{Parts};
+ghost use Rattle.std.specs.Cmp.Lexicographic.{slice_cmp};
+ghost use Rattle.std.specs.List.Sorted.{IsStrictlySortedBy};
+ghost use Rattle.std.specs.Ordering.{nat_cmp};
+ghost use Rattle.std.specs.Prelude.{◌≡◌, ℕ, Bool, List, [], IsOk, map, suc};
 
 /// A law, with nothing to run: a turn needs a key only where nothing is said of it, and finds the versions of a package too many only
 /// where its list says so.
@@ -22,4 +33,51 @@ pub fn a_solver_opens_right()
     ensures state { IsState [] opening }
     ensures history { IsHistory [] opening }
     ensures chosen { (prefers : Preference) → IsChosen prefers [] opening }
+    ensures solver { (answers : Answers) → AreShort answers → IsSolver answers opening }
+{}
+
+/// A law, with nothing to run: at each state of a solver the rules of its turns are right, and its turns keep what a solver is.
+pub fn the_rules_are_right()
+    ensures rules { (job : Job) (pins : Pins) (answers : Answers) (state : State) → (is : IsSolver answers state)
+        → AreRules plain_limits (rules_of job pins answers) is.facts state }
+    ensures kept { (job : Job) (pins : Pins) (answers : Answers) (state next : State) → IsSolver answers state
+        → turn_of (rules_of job pins answers) state ≡ Went next → IsSolver answers next }
+{}
+
+/// A law, with nothing to run: what is said of more keys changes nothing of a solver, nor of a turn that needs no more.
+pub fn more_answers_change_nothing()
+    ensures solver { (answers more : Answers) (state : State) → IsSolver answers state → Carries answers more → AreShort more → IsSolver more state }
+    ensures turn { (job : Job) (pins : Pins) (answers more : Answers) (state : State) → IsSolver answers state → Carries answers more
+        → IsAnswered (turn_of (rules_of job pins answers) state)
+        → turn_of (rules_of job pins more) state ≡ turn_of (rules_of job pins answers) state }
+{}
+
+/// A law, with nothing to run: the derivation behind a refutation is checked by its own facts.
+pub fn a_refutation_is_checked()
+    ensures { (same : Cause → Cause → Bool) (job : Job) (pins : Pins) (answers : Answers) (state : State) (terms : List Term) (first : ℕ)
+        (steps : List Step) → IsSolver answers state → turn_of (rules_of job pins answers) state ≡ Refuted terms first steps
+        → IsOk (checked_of (derivation_in same (lookups_by answers) state first steps).nodes
+        (derivation_in same (lookups_by answers) state first steps).sizes
+        (own_facts (derivation_in same (lookups_by answers) state first steps).lines)
+        (derivation_in same (lookups_by answers) state first steps).lines) }
+{}
+
+/// A law, with nothing to run: the states that a run goes to are a solver's, what is said of more keys changes none of them, a turn more goes
+/// on from the last, and a run has one end.
+pub fn runs_go_on()
+    ensures solver { (job : Job) (pins : Pins) (answers : Answers) (n : ℕ) (state : State) → AreShort answers
+        → plain_after job pins answers n ≡ Went state → IsSolver answers state }
+    ensures more { (job : Job) (pins : Pins) (answers more : Answers) (n : ℕ) (state : State) → AreShort answers → AreShort more → Carries answers more
+        → plain_after job pins answers n ≡ Went state → plain_after job pins more n ≡ Went state }
+    ensures step { (job : Job) (pins : Pins) (answers : Answers) (n : ℕ) (state : State) → plain_after job pins answers n ≡ Went state
+        → plain_after job pins answers (suc n) ≡ turn_of (rules_of job pins answers) state }
+    ensures one { (job : Job) (pins : Pins) (answers : Answers) (n m : ℕ) (state other : State) → plain_after job pins answers n ≡ Went state
+        → plain_after job pins answers m ≡ Went other → IsLast (turn_of (rules_of job pins answers) state)
+        → IsLast (turn_of (rules_of job pins answers) other) → (n ≡ m) × (state ≡ other) }
+{}
+
+/// A law, with nothing to run: the pins of a solver are those of its packages, in ascending order of their identities.
+pub fn pins_ascend()
+    ensures { (answers : Answers) (state : State) → IsSolver answers state
+        → IsStrictlySortedBy (slice_cmp nat_cmp) (map (λ (pin : List ℕ × Parts). pin.0) (pins_in (lookups_by answers) state)) }
 {}

@@ -7,16 +7,47 @@
 //! the others from the greatest down. With that as its rules, a turn is `pub_trail`'s, and `plain_after` (`specs/Plain.antt`) is what so
 //! many turns from the opening come to.
 //!
-//! The layers above use the definitions, and two laws: [`a_turn_needs_what_is_not_given`] and [`a_solver_opens_right`]. Of the solver's
-//! calls only the preference is here yet: [`pin_of`] and [`preferred`], the first of a package's preferred choices that is left.
+//! The layers above use [`Plain`], a solver of one job, and contracts see it as a `Solver` (`specs/Solver.antt`): its job and pins, what
+//! the replies that were given say, its state, and how many turns it did. `turn` is the definition's turn over what is said so far
+//! (`Turns`), `give` adds what a reply says (`IsGiven`), and `pins`, `derivation` and `choices_text` are functions of the state. So after
+//! any turns and replies each answer is that of the definition.
 //!
-//! How the proof goes: a predicate of what a load comes to holds of each thing that is read, from the last to the first
+//! What that means is said by laws over the definitions: a turn needs only what isn't given ([`a_turn_needs_what_is_not_given`]), the
+//! rules are right at each state that a run comes to ([`the_rules_are_right`], [`a_solver_opens_right`]), what is said of more keys
+//! changes nothing that was done ([`more_answers_change_nothing`], [`runs_go_on`]), a refutation's derivation is checked by its own
+//! facts ([`a_refutation_is_checked`]), and pins ascend ([`pins_ascend`]).
+//!
+//! How the code goes: what was said is kept as `Told`, the state as `Lists`, oldest first (`specs/Kept.antt`), and what is left of each
+//! node is worked out once a turn. A load goes through its keys (`reading`), then names its nodes and makes its facts (`loading`); the
+//! rest of a turn is `turning` and `next`, over the calls of `pub_trail`. A refutation is worked out again when its derivation is asked
+//! for (`refuting`), its lines are written once each (`writing`), and its nodes are renumbered (`renaming`).
+//!
+//! How the proof goes: what a solver is at each moment is `IsSolver` (`specs/Invariant.antt`), of what is kept `IsTurning`
+//! (`specs/Turning.antt`). A predicate of what a load comes to holds of each thing that is read, from the last to the first
 //! (`proofs/StopLemmas`), and of a turn by its cases. Worked runs compute (`proofs/Examples`): their counts of turns, what they pin, and
 //! what they ask for first.
 #![tactic(auto)]
 
+mod giving;
 mod laws;
+mod lists;
+mod loading;
+mod next;
+mod ordering;
+mod pins;
+mod plain;
 mod preference;
+mod reading;
+mod refuting;
+mod renaming;
+mod texts;
+mod told;
+mod turning;
+mod writing;
 
-pub use laws::{a_solver_opens_right, a_turn_needs_what_is_not_given};
+pub use laws::{
+    a_refutation_is_checked, a_solver_opens_right, a_turn_needs_what_is_not_given,
+    more_answers_change_nothing, pins_ascend, runs_go_on, the_rules_are_right,
+};
+pub use plain::Plain;
 pub use preference::{pin_of, preferred};

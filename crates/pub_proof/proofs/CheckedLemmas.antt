@@ -36,7 +36,7 @@ use Rattle.pub_proof.proofs.FormedLemmas.{and_three, can_resolve_from, earlier_p
 -- ---- results
 
 -- an answer, or a fault
-result_cases : {A E : Type 0} (result : Result A E) → ((answer : A) × (result ≡ Ok answer)) ⊎ ((fault : E) × (result ≡ Err fault))
+pub result_cases : {A E : Type 0} (result : Result A E) → ((answer : A) × (result ≡ Ok answer)) ⊎ ((fault : E) × (result ≡ Err fault))
 result_cases (Ok answer) = inl (answer, refl)
 result_cases (Err fault) = inr (fault, refl)
 
@@ -138,7 +138,7 @@ fact_says sizes facts own terms says =
     )
 
 -- a fact's line that is one of the facts and formed says its terms
-says_fact : (sizes : List ℕ) (facts : List (List Term)) (terms : List Term) → Contains facts terms → IsFormed sizes terms → fact_in sizes facts terms ≡ Ok terms
+pub says_fact : (sizes : List ℕ) (facts : List (List Term)) (terms : List Term) → Contains facts terms → IsFormed sizes terms → fact_in sizes facts terms ≡ Ok terms
 says_fact sizes facts terms there formed =
     ap (λ fault. or_kind (fact_fault sizes facts terms fault) terms) (no_fault_from sizes terms formed)
     ∙ ap (λ kind. or_kind kind terms)
@@ -147,7 +147,7 @@ says_fact sizes facts terms there formed =
 -- ---- a resolution's line
 
 -- a set on a node is a term's
-has_from_some : (terms : List Term) (node : ℕ) → IsSome (set_at terms node) → has_node terms node ≡ true
+pub has_from_some : (terms : List Term) (node : ℕ) → IsSome (set_at terms node) → has_node terms node ≡ true
 has_from_some [] node some = absurd (false≢true some)
 has_from_some (term ∷ terms) node some =
     elim (cases_eq term.node node) [
@@ -188,7 +188,7 @@ meets_one second on term set at each =
     ]
 
 -- terms that each meet the other line's set pass
-all_meet : (first second : List Term) (on : ℕ)
+pub all_meet : (first second : List Term) (on : ℕ)
     → ((term : Term) (set : ChoiceSet) → Contains first term → term.node ≢ on → set_at second term.node ≡ Some set → do_meet term.choices set ≡ true)
     → list_all (meets_in second on) first ≡ true
 all_meet [] second on each = refl
@@ -231,7 +231,7 @@ found nodes (Some one) (Some other) on terms says =
     ]
 
 -- a resolution's line says the resolvent
-says_resolvent : (nodes on : ℕ) (one other : List Term) → on < nodes → can_resolve one other on ≡ true
+pub says_resolvent : (nodes on : ℕ) (one other : List Term) → on < nodes → can_resolve one other on ≡ true
     → resolved_in nodes (Some one) (Some other) on ≡ Ok (resolvent one other on)
 says_resolvent nodes on one other known can =
     cond-false (not (nat_lt on nodes)) (Err NoSuchNode) (cond_resolve one other on) (ap not (lt-ltb on nodes known))
@@ -240,7 +240,7 @@ says_resolvent nodes on one other known can =
 -- ---- the numbers of lines
 
 -- a place among the first lines
-get_front : (earlier rest : List (List Term)) (i : ℕ) → i < length earlier → slice_get (earlier ++ rest) i ≡ slice_get earlier i
+pub get_front : (earlier rest : List (List Term)) (i : ℕ) → i < length earlier → slice_get (earlier ++ rest) i ≡ slice_get earlier i
 get_front [] rest i within = absurd (omega arith)
 get_front (terms ∷ earlier) rest zero within = refl
 get_front (terms ∷ earlier) rest (suc i) within = get_front earlier rest i (omega arith)
@@ -345,7 +345,7 @@ no_line : {A : Type 0} (line : A) → ◌≡◌ {A = Option A} None (Some line) 
 no_line line at = false≢true (ap is_some at)
 
 -- what follows a line's answer
-abbrev goes_on : List ℕ → List (List Term) → List (List Term) → List Line → Result (List Term) ProofKind → Result (List (List Term)) LineFault
+abbrev pub goes_on : List ℕ → List (List Term) → List (List Term) → List Line → Result (List Term) ProofKind → Result (List (List Term)) LineFault
 goes_on sizes facts earlier lines answer = at_line (length earlier + 1) answer >>= λ terms. lines_after sizes facts (earlier ++ terms ∷ []) lines
 
 -- one more line in front

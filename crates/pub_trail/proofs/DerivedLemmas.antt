@@ -18,7 +18,7 @@ use Rattle.pub_trail.specs.declared.origin.Origin.TheVariants.{OfConflict, OfLoa
 -- ---- what lines say
 
 -- the newest line has the last number
-said-last : (says : Says) (before : List Says) → said (says ∷ before) (length before + 1) ≡ Some says.terms
+pub said-last : (says : Says) (before : List Says) → said (says ∷ before) (length before + 1) ≡ Some says.terms
 said-last says before = cond-true (length before + 1 == length before + 1) _ _ (eq-eqb (length before + 1) (length before + 1) refl)
 
 -- a number that says something is that of a line

@@ -58,7 +58,7 @@ origin_grow facts given incompats more number (OfConflict first steps) extends k
 -- ---- a load
 
 -- a load's facts come from it
-load_history : (facts : List (List Term)) (limits : Limits) (rules : Rules) (state : State) (place : Place) (loaded : Loaded) → IsState facts state
+pub load_history : (facts : List (List Term)) (limits : Limits) (rules : Rules) (state : State) (place : Place) (loaded : Loaded) → IsState facts state
     → IsHistory facts state → AreRules limits rules facts state → rules.load state place ≡ Brings loaded
     → IsHistory (facts ++ loaded.facts) (record {
       names = state.names ++ loaded.names;
@@ -134,7 +134,7 @@ begins_plain : (incompats : List (List Term)) (terms : List Term) (step : Step) 
 begins_plain incompats terms step steps final chain = chain.1
 
 -- what was learned comes from its conflict
-learned_history : (facts : List (List Term)) (state : State) (first level : ℕ) (terms : List Term) (steps : List Step) → IsHistory facts state
+pub learned_history : (facts : List (List Term)) (state : State) (first level : ℕ) (terms : List Term) (steps : List Step) → IsHistory facts state
     → first < length state.incompats → AreBelow (length state.incompats) steps → IsChain state.incompats (slice_index_or state.incompats first []) steps terms
     → is_refutation terms ≡ false → IsFormed state.sizes terms
     → IsHistory facts (record {

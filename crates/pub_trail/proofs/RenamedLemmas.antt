@@ -242,13 +242,13 @@ AreNodesAscending-renamed number (term ∷ terms) apart up =
     (set_at-renamed number terms term.node apart tail ∙ tail_none term terms up)
 
 -- a node under the numbers is one of before
-record IsOld (number : ℕ → ℕ) (terms : List Term) (node : ℕ) (set : ChoiceSet) : Type 0 where
-  old : ℕ
-  is : number old ≡ node
-  at : set_at terms old ≡ Some set
+pub record IsOld (number : ℕ → ℕ) (terms : List Term) (node : ℕ) (set : ChoiceSet) : Type 0 where
+  pub old : ℕ
+  pub is : number old ≡ node
+  pub at : set_at terms old ≡ Some set
 
 -- a renumbered term comes from one
-some_renamed : (number : ℕ → ℕ) (terms : List Term) (node : ℕ) (set : ChoiceSet) → IsNumbering number → AreNodesAscending terms
+pub some_renamed : (number : ℕ → ℕ) (terms : List Term) (node : ℕ) (set : ChoiceSet) → IsNumbering number → AreNodesAscending terms
     → set_at (renamed number terms) node ≡ Some set → IsOld number terms node set
 some_renamed number [] node set apart up at = cc
 some_renamed number (term ∷ terms) node set apart up at =

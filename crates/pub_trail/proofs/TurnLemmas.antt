@@ -94,18 +94,18 @@ load_keeps facts limits rules state place is are (Brings loaded) at =
     )
 
 -- what is learned comes last
-learned_extends : (incompats : List (List Term)) (terms : List Term) (steps : List Step) → Extends [] incompats (learned incompats terms steps)
+pub learned_extends : (incompats : List (List Term)) (terms : List Term) (steps : List Step) → Extends [] incompats (learned incompats terms steps)
 learned_extends incompats terms [] = Extends-same [] incompats
 learned_extends incompats terms (step ∷ steps) = Extends-append [] incompats (terms ∷ [])
 
 -- and is well formed
-learned_formed : (sizes : List ℕ) (incompats : List (List Term)) (terms : List Term) (steps : List Step) → AreFormed sizes incompats → IsFormed sizes terms
+pub learned_formed : (sizes : List ℕ) (incompats : List (List Term)) (terms : List Term) (steps : List Step) → AreFormed sizes incompats → IsFormed sizes terms
     → AreFormed sizes (learned incompats terms steps)
 learned_formed sizes incompats terms [] formed here = formed
 learned_formed sizes incompats terms (step ∷ steps) formed here = AreFormed-append sizes incompats (terms ∷ []) formed (here, tt)
 
 -- and follows
-learned_none : (incompats : List (List Term)) (terms : List Term) (steps : List Step) (assignment : ℕ → ℕ) → ViolatesNone incompats assignment
+pub learned_none : (incompats : List (List Term)) (terms : List Term) (steps : List Step) (assignment : ℕ → ℕ) → ViolatesNone incompats assignment
     → violates assignment terms ≡ false → ViolatesNone (learned incompats terms steps) assignment
 learned_none incompats terms [] assignment none here = none
 learned_none incompats terms (step ∷ steps) assignment none here = ViolatesNone-append incompats (terms ∷ []) assignment none (here, tt)
@@ -159,7 +159,7 @@ conflict_asked facts state number is found =
     }
 
 -- one more assignment keeps the oldest
-Begins-more : (entry : Assigned) (trail : List Assigned) → Begins trail → Begins (entry ∷ trail)
+pub Begins-more : (entry : Assigned) (trail : List Assigned) → Begins trail → Begins (entry ∷ trail)
 Begins-more entry [] begins = elim begins [ ]
 Begins-more entry (next ∷ trail) begins = begins
 
@@ -200,7 +200,7 @@ forced_keeps facts state forced is found =
     )
 
 -- the set of one choice
-has-one : (size choice other : ℕ) → other < size → has (choices_of size (choice ∷ [])) other ≡ (other == choice)
+pub has-one : (size choice other : ℕ) → other < size → has (choices_of size (choice ∷ [])) other ≡ (other == choice)
 has-one size choice other below =
     is_among-where size (is_among (choice ∷ [])) other
     ∙ ap₂ (λ a b. a && (b || false)) (lt-ltb other size below) (same_number choice other)

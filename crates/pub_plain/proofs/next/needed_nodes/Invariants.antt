@@ -1,0 +1,13 @@
+use Rattle.std.proofs.Common.{◌≡◌, ℕ, ◌-◌, ◌<◌, ◌≤◌, false, get_or, length}
+use Rattle.pub_plain.specs.Loading.{name_at}
+use Rattle.pub_plain.specs.Next.{is_needed_in}
+use Rattle.pub_plain.proofs.next.needed_nodes.Given as goal
+
+abbrev pub invariant-loop-passes : goal.invariant-loop-passes
+invariant-loop-passes l = record {
+  within : length l.passes.items ≤ length l.names;
+  each : (number : ℕ) → number < length l.passes.items → get_or l.passes.items number false ≡ is_needed_in l.opens number (name_at l.names number);
+}
+
+abbrev pub decreases-loop-passes : goal.decreases-loop-passes
+decreases-loop-passes l = length l.names - length l.passes.items

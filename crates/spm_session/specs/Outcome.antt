@@ -1,0 +1,101 @@
+-- What the resolution of a root over a catalogue of replies comes to, as the first of its items that applies: the refusal that its job
+-- holds; the first demanded key whose reply is refused; a limit; a refutation; or the pins. It has no link, cache or memory in it.
+use Rattle.std.specs.Prelude.{◌≡◌, ℕ, min, List, length, map, Bool, Some, Err, IsOk}
+use Rattle.pub_facts.specs.Catalogue.{Job}
+use Rattle.pub_plain.specs.Answers.{Answers, answers_of, lookups_by}
+use Rattle.pub_plain.specs.Choosing.{Pins}
+use Rattle.pub_plain.specs.Derivation.{choice_texts, derivation_in, pins_in}
+use Rattle.pub_plain.specs.Plain.{plain_after, rules_of}
+use Rattle.pub_proof.specs.Checked.{checked_of}
+use Rattle.pub_proof.specs.Checks.{own_facts}
+use Rattle.pub_proof.specs.declared.derivation.Derivation.{Derivation}
+use Rattle.pub_term.specs.declared.cause.Cause.{Cause}
+use Rattle.pub_term.specs.declared.term.Term.{Term}
+use Rattle.pub_trail.specs.Turn.{State, Step, Turn, Went, Needs, TooWide, Selected, Refuted, turn_of}
+use Rattle.spm_api.specs.Refused.{Refusal, garbled, says, too_long, unreadable}
+use Rattle.spm_api.specs.Said.{said_in}
+use Rattle.spm_key.specs.Catalogue.{Catalogue}
+use Rattle.spm_key.specs.declared.key.Key.{Key}
+use Rattle.spm_session.specs.declared.outcome.Outcome.{Outcome}
+use Rattle.spm_session.specs.declared.outcome.Outcome.TheVariants as outcome
+
+-- a run of the plain solver up to a last turn
+pub record Runs (job : Job) (pins : Pins) (answers : Answers) (last : Turn) : Type 0 where
+  pub turns : ℕ
+  pub state : State
+  pub after : plain_after job pins answers turns ≡ Went state
+  pub is : turn_of (rules_of job pins answers) state ≡ last
+
+-- the count of turns stops at the greatest number of 64 bits
+abbrev pub count_of : ℕ → ℕ
+count_of turns = min turns 18446744073709551615
+
+-- every key that is demanded is answered, and the decisions are a selection
+pub record IsResolved (job : Job) (pins : Pins) (c : Catalogue) (found : Pins) (turns : ℕ) : Type 0 where
+  pub run : Runs job pins (answers_of c) Selected
+  pub pins_are : found ≡ pins_in (lookups_by (answers_of c)) run.state
+  pub turns_are : turns ≡ count_of run.turns
+
+-- the solver refutes: the derivation, and the texts of its nodes' choices; `same` says which causes are equal
+pub record IsRefuted (same : Cause → Cause → Bool) (job : Job) (pins : Pins) (c : Catalogue) (found : Derivation) (texts : List (List (List ℕ))) (turns : ℕ)
+    : Type 0 where
+  pub terms : List Term
+  pub first : ℕ
+  pub steps : List Step
+  pub run : Runs job pins (answers_of c) (Refuted terms first steps)
+  pub derivation_is : found ≡ derivation_in same (lookups_by (answers_of c)) run.state first steps
+  pub texts_are : texts ≡ choice_texts (lookups_by (answers_of c)) run.state.names
+  pub turns_are : turns ≡ count_of run.turns
+
+-- a key is demanded, and its reply is refused for this reason
+pub record IsRefusal (job : Job) (pins : Pins) (c : Catalogue) (asked : Key) (reason : Refusal) : Type 0 where
+  pub run : Runs job pins (answers_of c) (Needs asked)
+  pub refused : said_in c asked ≡ Some (Err reason)
+
+-- what a job that is ready comes to
+abbrev pub IsReadyOutcome : (Cause → Cause → Bool) → Job → Pins → Catalogue → Outcome → Type 0
+IsReadyOutcome same job pins c (outcome.Resolved found turns) = IsResolved job pins c found turns
+IsReadyOutcome same job pins c (outcome.Refuted derivation texts turns) = IsRefuted same job pins c derivation texts turns
+IsReadyOutcome same job pins c (outcome.TooWide wide) = Runs job pins (answers_of c) (TooWide wide)
+IsReadyOutcome same job pins c (outcome.RegistrySays asked status detail) = IsRefusal job pins c asked (says status detail)
+IsReadyOutcome same job pins c (outcome.Garbled asked) = IsRefusal job pins c asked garbled
+IsReadyOutcome same job pins c (outcome.TooLong asked) = IsRefusal job pins c asked too_long
+IsReadyOutcome same job pins c (outcome.ListUnreadable asked) = IsRefusal job pins c asked unreadable
+IsReadyOutcome same job pins c outcome.RootMissing = ⊥
+IsReadyOutcome same job pins c (outcome.RootUnreadable place kind) = ⊥
+IsReadyOutcome same job pins c (outcome.RootTooNew needed running) = ⊥
+IsReadyOutcome same job pins c (outcome.ResolvedUnreadable place kind) = ⊥
+IsReadyOutcome same job pins c (outcome.FetchFault asked) = ⊥
+IsReadyOutcome same job pins c outcome.Memory = ⊥
+
+-- the refusals that a job may hold: the root's files are missing, unreadable or too new, or memory wasn't there
+abbrev pub IsOfFiles : Outcome → Type 0
+IsOfFiles outcome.RootMissing = Unit {0}
+IsOfFiles (outcome.RootUnreadable place kind) = Unit {0}
+IsOfFiles (outcome.RootTooNew needed running) = Unit {0}
+IsOfFiles (outcome.ResolvedUnreadable place kind) = Unit {0}
+IsOfFiles outcome.Memory = Unit {0}
+IsOfFiles (outcome.Resolved pins turns) = ⊥
+IsOfFiles (outcome.Refuted derivation texts turns) = ⊥
+IsOfFiles (outcome.TooWide wide) = ⊥
+IsOfFiles (outcome.RegistrySays asked status detail) = ⊥
+IsOfFiles (outcome.Garbled asked) = ⊥
+IsOfFiles (outcome.TooLong asked) = ⊥
+IsOfFiles (outcome.ListUnreadable asked) = ⊥
+IsOfFiles (outcome.FetchFault asked) = ⊥
+
+-- a derivation that its own facts check, with a text for each choice of each of its nodes
+pub record IsExplained (found : Derivation) (texts : List (List (List ℕ))) : Type 0 where
+  pub sizes : length found.sizes ≡ length found.nodes
+  pub checked : IsOk (checked_of found.nodes found.sizes (own_facts found.lines) found.lines)
+  pub texts_are : map length texts ≡ found.sizes
+
+-- a refutation can be put into words
+abbrev pub CanBeTold : Outcome → Type 0
+CanBeTold (outcome.Refuted derivation texts turns) = IsExplained derivation texts
+CanBeTold other = Unit {0}
+
+-- no fault of a link
+abbrev pub IsNoFault : Outcome → Type 0
+IsNoFault (outcome.FetchFault asked) = ⊥
+IsNoFault other = Unit {0}
