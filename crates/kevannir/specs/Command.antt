@@ -1,15 +1,21 @@
--- What the program does with its words, by the command that they are.
-use Rattle.std.specs.Prelude.{ℕ, List, Option, Some, None}
+-- What the program does with its words, by the first of them.
+use Rattle.std.specs.Prelude.{ℕ, List, [], ◌∷◌, Bool, true, false, codes}
+use Rattle.std.specs.Str.{bytes_eq}
+use Rattle.pub_term.specs.declared.cause.Cause.{Cause}
 use Rattle.spm_outside.specs.Desk.{DeskState}
 use Rattle.spm_outside.specs.Sink.{SinkState}
-use Rattle.spm_tool.specs.Check.{ChecksFile}
-use Rattle.spm_tool.specs.Resolves.{RefusesWords, Runs}
-use Rattle.spm_tool.specs.Words.{Command, check, command_of, resolve}
+use Rattle.spm_tool.specs.Check.{Still}
+use Rattle.spm_tool.specs.Resolves.{Resolves}
 
-abbrev pub AnswersBy : Option Command → DeskState → DeskState → SinkState → SinkState → ℕ → Type 0
-AnswersBy (Some (resolve order)) before after sink_before sink_after status = Runs order before after sink_before sink_after status
-AnswersBy (Some (check file)) before after sink_before sink_after status = ChecksFile file before after sink_before sink_after status
-AnswersBy None before after sink_before sink_after status = RefusesWords before after sink_before sink_after status
+abbrev pub is_resolve : List (List ℕ) → Bool
+is_resolve [] = false
+is_resolve (word ∷ words) = bytes_eq word (codes "resolve")
 
-abbrev pub Answers : List (List ℕ) → DeskState → DeskState → SinkState → SinkState → ℕ → Type 0
-Answers words before after sink_before sink_after status = AnswersBy (command_of words) before after sink_before sink_after status
+-- `resolve`, or a command that waits for nobody; `same` says which causes are equal
+abbrev pub AnswersBy : Bool → (Cause → Cause → Bool) → List (List ℕ) → DeskState → DeskState → SinkState → SinkState → ℕ → Type 0
+AnswersBy true same words before after sink_before sink_after status = Resolves same words before after sink_before sink_after status
+AnswersBy false same words before after sink_before sink_after status = Still words before after sink_before sink_after status
+
+abbrev pub Answers : (Cause → Cause → Bool) → List (List ℕ) → DeskState → DeskState → SinkState → SinkState → ℕ → Type 0
+Answers same words before after sink_before sink_after status =
+    AnswersBy (is_resolve words) same words before after sink_before sink_after status

@@ -1,15 +1,16 @@
 //! The program: it hands the words behind its name to `spm_tool::resolve`, or to `spm_tool::still` for another command, over the
 //! system's files and standard output, and ends with the status that it gives.
 //!
-//! All that the program promises are the contracts of these calls, of which [`answer`] takes the one of the command that the words
-//! are; here alone the runtime is named.
+//! All that the program promises are the contracts of these calls, of which [`answer`] takes the one of the command that the first word
+//! is; here alone the runtime is named.
 #![tactic(auto)]
 
 ghost use Rattle.std.specs.Prelude.{IfOk, ◌≡◌, map as map_list, string_bytes, vec_len};
 ghost use Rattle.kevannir.specs.Command.{Answers};
 
+use pub_term::Cause;
 use spm_outside::{Book, BookLink, Desk, FolderDesk, Gate, Link, OpenGate, Sink, StdSink};
-use spm_tool::{Command, resolve, still};
+use spm_tool::{resolve, still};
 use spm_version::{Bytes, Items, NoMemory};
 use std::alloc::Global;
 use std::env;
@@ -56,11 +57,13 @@ fn answer<R: Threads + Wait + Sync, D: Desk, L: Link + Send, O: Sink, G: Gate>(
     out: &mut O,
     gate: &G,
 ) -> u8
-    ensures { Answers (map_list string_bytes words.now)
+    ensures { Answers ⟦<Cause as PartialEq>⟧.eq (map_list string_bytes words.now)
         (D.state desk.old) (D.state desk.new) (O.state out.old) (O.state out.new) result }
 {
-    match Command::read(words) {
-        Some(Command::Resolve(_)) => resolve(rt, alloc, words, desk, links, out, gate),
+    match words.first() {
+        Some(word) if word.as_str() == "resolve" => {
+            resolve(rt, alloc, words, desk, links, out, gate)
+        }
         _ => still(alloc, words, desk, out),
     }
 }

@@ -180,7 +180,7 @@ out $resolved
 faults 0
 has app/Package.resolved "version" : "1.0.0+x"
 
-case what asks for nothing unbuilt, 1
+case other forms of a need, 1
 file s.json $shelf
 file app/Package.json {"name":"app","dependencies":[{"registry":[{"identity":"mona.LinkedList","requirement":{"exact":["1.0.0"]}}]}],$tools
 run $go
@@ -190,7 +190,7 @@ out $resolved
 faults 0
 has app/Package.resolved "version" : "1.0.0"
 
-case what asks for nothing unbuilt, 2
+case other forms of a need, 2
 file s.json $shelf
 file app/Package.json {"name":"app","dependencies":[{"registry":[{"identity":"MONA.linkedlist","requirement":{"exact":["2.0.0"]}}]}],$tools
 run $go
@@ -200,7 +200,7 @@ out $resolved
 faults 0
 has app/Package.resolved "version" : "2.0.0"
 
-case what asks for nothing unbuilt, 3
+case other forms of a need, 3
 file s.json $shelf
 file app/Package.json {"name":"app","traits":[],"dependencies":[$one],$tools
 run $go
@@ -210,7 +210,7 @@ out $resolved
 faults 0
 has app/Package.resolved "version" : "1.1.0"
 
-case what asks for nothing unbuilt, 4
+case other forms of a need, 4
 file s.json $shelf
 file app/Package.json {"name":"app","dependencies":[{"registry":[{"identity":"mona.LinkedList","requirement":$range,"traits":null}]}],$tools
 run $go
@@ -220,7 +220,7 @@ out $resolved
 faults 0
 has app/Package.resolved "version" : "1.1.0"
 
-case what asks for nothing unbuilt, 5
+case other forms of a need, 5
 file s.json $shelf
 file app/Package.json {"name":"app","dependencies":[{"registry":[{"identity":"mona.LinkedList","requirement":$range,"traits":[{"name":"default"}]}]}],$tools
 run $go
@@ -230,7 +230,7 @@ out $resolved
 faults 0
 has app/Package.resolved "version" : "1.1.0"
 
-case what asks for nothing unbuilt, 6
+case other forms of a need, 6
 file s.json $shelf
 file app/Package.json {"name":"app","dependencies":[{"registry":[{"identity":"mona.LinkedList","requirement":$range,"traits":[{"name":"default","condition":{"traits":[]}}]}]}],$tools
 run $go
@@ -240,7 +240,7 @@ out $resolved
 faults 0
 has app/Package.resolved "version" : "1.1.0"
 
-case what asks for nothing unbuilt, 7
+case other forms of a need, 7
 file s.json $shelf
 file app/Package.json {"name":"app","dependencies":[$one],"targets":[{"name":"App","dependencies":[{"product":["L","mona.linkedlist"]}]}],$tools
 run $go
@@ -250,7 +250,7 @@ out $resolved
 faults 0
 has app/Package.resolved "version" : "1.1.0"
 
-case what asks for nothing unbuilt, 8
+case other forms of a need, 8
 file s.json $shelf
 file app/Package.json {"name":"app","dependencies":[$one],"targets":[{"dependencies":[{"product":["L","mona.linkedlist",null,{"traits":["X"]}]},{"byName":["mona.linkedlist"]}]}],$tools
 run $go
@@ -261,7 +261,7 @@ faults 0
 has app/Package.resolved "version" : "1.1.0"
 "##;
 
-// Words, shelves, manifests and releases that are refused, and needs that no release meets.
+// Words, shelves and manifests that are refused, and needs of the root that no release meets.
 const REFUSED: &str =
     r##"let one {"registry":[{"identity":"mona.LinkedList","requirement":{"range":[{"lowerBound":"1.0.0","upperBound":"2.0.0"}]}}]}
 let range {"range":[{"lowerBound":"1.0.0","upperBound":"2.0.0"}]}
@@ -400,6 +400,106 @@ out words: not built yet
 faults 0
 absent app/Package.resolved
 
+case traits and tools that aren't accepted
+desk 1
+file s.json $shelf
+file app/Package.json $none
+run resolve --shelf s.json --tools-version x app
+status 2
+out words: not built yet
+run resolve --shelf s.json --tools-version 7.0.0.0 app
+status 2
+out words: not built yet
+run resolve --shelf s.json --tools-version '' app
+status 2
+out words: not built yet
+run resolve --shelf s.json --tools-version 1234567890 app
+status 2
+out words: not built yet
+run resolve --shelf s.json --tools-version 6.-1 app
+status 2
+out words: not built yet
+run resolve --shelf s.json --tools-version app
+status 2
+out words: not built yet
+run resolve --shelf s.json --tools-version 7
+status 2
+out words: not built yet
+run resolve --shelf s.json --tools-version 7 --tools-version 7 app
+status 2
+out words: not built yet
+run resolve --shelf s.json --tools-version
+status 2
+out words: not built yet
+run resolve --shelf s.json --traits '' app
+status 2
+out words: not built yet
+run resolve --shelf s.json --traits a/b app
+status 2
+out words: not built yet
+run resolve --shelf s.json --traits -a app
+status 2
+out words: not built yet
+run resolve --shelf s.json --traits a,,b app
+status 2
+out words: not built yet
+run resolve --shelf s.json --traits a, app
+status 2
+out words: not built yet
+run resolve --shelf s.json --traits defaults app
+status 2
+out words: not built yet
+run resolve --shelf s.json --traits a
+status 2
+out words: not built yet
+run resolve --shelf s.json --traits a b app
+status 2
+out words: not built yet
+run resolve --shelf s.json --traits a --traits b app
+status 2
+out words: not built yet
+run resolve --shelf s.json --traits a --enable-all-traits app
+status 2
+out words: not built yet
+run resolve --shelf s.json --enable-all-traits --disable-default-traits app
+status 2
+out words: not built yet
+run resolve --shelf s.json --enable-all-traits
+status 2
+out words: not built yet
+run resolve --shelf s.json --disable-default-traits
+status 2
+out words: not built yet
+run resolve --shelf s.json --enable-all-traits app app
+status 2
+out words: not built yet
+run resolve --shelf s.json --enable-all-trait app
+status 2
+out words: not built yet
+run resolve --shelf s.json app --traits a
+status 2
+out words: not built yet
+run resolve --shelf s.json app --enable-all-traits
+status 2
+out words: not built yet
+run resolve --shelf s.json --traits a --tools-version 7 app
+status 2
+out words: not built yet
+run resolve --shelf s.json --enable-all-traits --tools-version 7 app
+status 2
+out words: not built yet
+run resolve --shelf s.json --tools-version 7 --traits a -app
+status 2
+out words: not built yet
+run resolve --tools-version 7 --shelf s.json app
+status 2
+out words: not built yet
+run resolve --traits a --shelf s.json app
+status 2
+out words: not built yet
+faults 0
+absent app/Package.resolved
+
 case other words of the commands that wait for nobody
 desk 1
 run 
@@ -494,132 +594,323 @@ faults 0
 absent app/Package.resolved
 
 case a shelf
-file s.json {"packages":{}}
 file app/Package.json $none
+file s.json {"packages":{}}
+run $go
+status 0
+out app: resolved 0 in 4 turns
+out $resolved
+file s.json {"packages":{},"urls":null}
+run $go
+status 0
+out app: resolved 0 in 4 turns
+out $resolved
+file s.json {"packages":{},"urls":{"u":[]},"more":1}
+run $go
+status 0
+out app: resolved 0 in 4 turns
+out $resolved
+file s.json {"packages":{"mona.A":{}}}
+run $go
+status 0
+out app: resolved 0 in 4 turns
+out $resolved
+file s.json {"packages":{"mona.a":{"1.0.0":{"manifest":"","archive":""}}}}
+run $go
+status 0
+out app: resolved 0 in 4 turns
+out $resolved
+file s.json {"packages":{"mona.a":{"1.0.0":{"manifest":"","archive":"","checksum":null}}}}
+run $go
+status 0
+out app: resolved 0 in 4 turns
+out $resolved
+file s.json {"packages":{"mona.a":{"1.0.0-a.zip":{"manifest":"","archive":""}}}}
+run $go
+status 0
+out app: resolved 0 in 4 turns
+out $resolved
+file s.json {"packages":{"mona.a":{"1.0.0":{"problem":"gone"}}}}
 run $go
 status 0
 out app: resolved 0 in 4 turns
 out $resolved
 faults 0
 
-case a shelf
+# The root's files aren't got, and no file is put: the desk would fail there.
+
+case a file that is no shelf
+desk 2
 file s.json 
 file app/Package.json $none
 run $go
 status 3
-out s.json: not built yet
+out s.json: unreadable at /: not JSON
 faults 0
 absent app/Package.resolved
 
-case a shelf
+case a file that is no shelf
+desk 2
+file s.json {"packages":{
+file app/Package.json $none
+run $go
+status 3
+out s.json: unreadable at /: not JSON
+faults 0
+absent app/Package.resolved
+
+case a file that is no shelf
+desk 2
+file s.json {"packages":{}} x
+file app/Package.json $none
+run $go
+status 3
+out s.json: unreadable at /: not JSON
+faults 0
+absent app/Package.resolved
+
+case a file that is no shelf
+desk 2
+file s.json []
+file app/Package.json $none
+run $go
+status 3
+out s.json: unreadable at /: wrong kind
+faults 0
+absent app/Package.resolved
+
+case a file that is no shelf
+desk 2
 file s.json {}
 file app/Package.json $none
 run $go
 status 3
-out s.json: not built yet
+out s.json: unreadable at /packages: missing
 faults 0
 absent app/Package.resolved
 
-case a shelf
+case a file that is no shelf
+desk 2
+file s.json {"urls":[]}
+file app/Package.json $none
+run $go
+status 3
+out s.json: unreadable at /packages: missing
+faults 0
+absent app/Package.resolved
+
+case a file that is no shelf
+desk 2
+file s.json {"packages":null}
+file app/Package.json $none
+run $go
+status 3
+out s.json: unreadable at /packages: wrong kind
+faults 0
+absent app/Package.resolved
+
+case a file that is no shelf
+desk 2
 file s.json {"packages":[]}
 file app/Package.json $none
 run $go
 status 3
-out s.json: not built yet
+out s.json: unreadable at /packages: wrong kind
 faults 0
 absent app/Package.resolved
 
-case a shelf
-file s.json {"packages":{},"urls":{"u":[]}}
-file app/Package.json $none
-run $go
-status 3
-out s.json: not built yet
-faults 0
-absent app/Package.resolved
-
-case a shelf
-file s.json {"packages":{},"urls":null}
-file app/Package.json $none
-run $go
-status 0
-out app: resolved 0 in 4 turns
-out $resolved
-faults 0
-
-case a shelf
+case a file that is no shelf
+desk 2
 file s.json {"packages":{"mona":{}}}
 file app/Package.json $none
 run $go
 status 3
-out s.json: not built yet
+out s.json: unreadable at /packages: bad identity
 faults 0
 absent app/Package.resolved
 
-case a shelf
+case a file that is no shelf
+desk 2
 file s.json {"packages":{"mona.A":{},"mona.a":{}}}
 file app/Package.json $none
 run $go
 status 3
-out s.json: not built yet
+out s.json: unreadable at /packages: doubled
 faults 0
 absent app/Package.resolved
 
-case a shelf
+case a file that is no shelf
+desk 2
+file s.json {"packages":{"mona.a":[]}}
+file app/Package.json $none
+run $go
+status 3
+out s.json: unreadable at /packages: wrong kind
+faults 0
+absent app/Package.resolved
+
+case a file that is no shelf
+desk 2
 file s.json {"packages":{"mona.a":{"1":{}}}}
 file app/Package.json $none
 run $go
 status 3
-out s.json: not built yet
+out s.json: unreadable at /packages: bad version
 faults 0
 absent app/Package.resolved
 
-case a shelf
+case a file that is no shelf
+desk 2
+file s.json {"packages":{"mona.a":{"1.0.0":[]}}}
+file app/Package.json $none
+run $go
+status 3
+out s.json: unreadable at /packages: wrong kind
+faults 0
+absent app/Package.resolved
+
+case a file that is no shelf
+desk 2
 file s.json {"packages":{"mona.a":{"1.0.0":{}}}}
 file app/Package.json $none
 run $go
 status 3
-out s.json: not built yet
+out s.json: unreadable at /packages: missing
 faults 0
 absent app/Package.resolved
 
-case a shelf
+case a file that is no shelf
+desk 2
+file s.json {"packages":{"mona.a":{"1.0.0":{"manifest":null,"archive":""}}}}
+file app/Package.json $none
+run $go
+status 3
+out s.json: unreadable at /packages: missing
+faults 0
+absent app/Package.resolved
+
+case a file that is no shelf
+desk 2
+file s.json {"packages":{"mona.a":{"1.0.0":{"problem":null,"manifest":""}}}}
+file app/Package.json $none
+run $go
+status 3
+out s.json: unreadable at /packages: missing
+faults 0
+absent app/Package.resolved
+
+case a file that is no shelf
+desk 2
+file s.json {"packages":{"mona.a":{"1.0.0":{"manifest":{},"archive":""}}}}
+file app/Package.json $none
+run $go
+status 3
+out s.json: unreadable at /packages: wrong kind
+faults 0
+absent app/Package.resolved
+
+case a file that is no shelf
+desk 2
+file s.json {"packages":{"mona.a":{"1.0.0":{"problem":3}}}}
+file app/Package.json $none
+run $go
+status 3
+out s.json: unreadable at /packages: wrong kind
+faults 0
+absent app/Package.resolved
+
+case a file that is no shelf
+desk 2
 file s.json {"packages":{"mona.a":{"1.0.0":{"manifest":"","archive":"6"}}}}
 file app/Package.json $none
 run $go
 status 3
-out s.json: not built yet
+out s.json: unreadable at /packages: bad hex
 faults 0
 absent app/Package.resolved
 
-case a shelf
-file s.json {"packages":{"mona.a":{"1.0.0":{"manifest":"","archive":""}}}}
-file app/Package.json $none
-run $go
-status 0
-out app: resolved 0 in 4 turns
-out $resolved
-faults 0
-
-case a shelf
-file s.json {"packages":{"mona.a":{"1.0.0-a.zip":{"manifest":"","archive":""}}}}
+case a file that is no shelf
+desk 2
+file s.json {"packages":{"mona.a":{"1.0.0":{"problem":"gone","archive":"zz"}}}}
 file app/Package.json $none
 run $go
 status 3
-out s.json: not built yet
+out s.json: unreadable at /packages: bad hex
 faults 0
 absent app/Package.resolved
 
-case a shelf
-file s.json {"packages":{"mona.a":{"1.0.0":{"problem":"gone"}}}}
+case a file that is no shelf
+desk 2
+file s.json {"packages":{"mona.a":{"1.0.0":{"manifest":"","archive":"","checksum":"e3b0"}}}}
 file app/Package.json $none
 run $go
 status 3
-out s.json: not built yet
+out s.json: unreadable at /packages: bad hex
 faults 0
 absent app/Package.resolved
 
-case a shelf
+case a file that is no shelf
+desk 2
+file s.json {"packages":{},"urls":[]}
+file app/Package.json $none
+run $go
+status 3
+out s.json: unreadable at /urls: wrong kind
+faults 0
+absent app/Package.resolved
+
+case a file that is no shelf
+desk 2
+file s.json {"packages":{},"urls":{"u":"mona.a"}}
+file app/Package.json $none
+run $go
+status 3
+out s.json: unreadable at /urls: wrong kind
+faults 0
+absent app/Package.resolved
+
+case a file that is no shelf
+desk 2
+file s.json {"packages":{},"urls":{"u":["mona.a","mona"]}}
+file app/Package.json $none
+run $go
+status 3
+out s.json: unreadable at /urls: bad identity
+faults 0
+absent app/Package.resolved
+
+case a file that is no shelf
+desk 2
+file s.json {"packages":{"mona":{}},"urls":[]}
+file app/Package.json $none
+run $go
+status 3
+out s.json: unreadable at /packages: bad identity
+faults 0
+absent app/Package.resolved
+
+case a file that is no shelf
+desk 2
+file s.json {"packages":{"mona.b":[],"mona.A":{"1":{}}}}
+file app/Package.json $none
+run $go
+status 3
+out s.json: unreadable at /packages: bad version
+faults 0
+absent app/Package.resolved
+
+case a file that is no shelf
+desk 2
+file s.json {"packages":{"mona.a":{"1.0.0":{"manifest":"","archive":"","checksum":"e3b0c44298fc1c149afbf4c8996fb92427ae41e4649b934ca495991b7852b855"}},"mona.b":[]}}
+file app/Package.json $none
+run $go
+status 3
+out s.json: unreadable at /packages: wrong kind
+faults 0
+absent app/Package.resolved
+
+case a shelf with a checksum
+desk 2
 file s.json {"packages":{"mona.a":{"1.0.0":{"manifest":"","archive":"","checksum":"e3b0c44298fc1c149afbf4c8996fb92427ae41e4649b934ca495991b7852b855"}}}}
 file app/Package.json $none
 run $go
@@ -628,23 +919,24 @@ out s.json: not built yet
 faults 0
 absent app/Package.resolved
 
-case a shelf of 32768 bytes
+case a shelf with a checksum
+desk 2
+file s.json {"packages":{"mona.a":{"1.0.0":{"problem":"gone","checksum":"e3b0c44298fc1c149afbf4c8996fb92427ae41e4649b934ca495991b7852b855"}}}}
+file app/Package.json $none
+run $go
+status 3
+out s.json: not built yet
+faults 0
+absent app/Package.resolved
+
+case a long shelf
 file s.json {"packages":{}}
-pad s.json 32768
+pad s.json 70000
 file app/Package.json $none
 run $go
 status 0
 out app: resolved 0 in 4 turns
 out $resolved
-faults 0
-
-case a shelf of 32769 bytes
-file s.json {"packages":{}}
-pad s.json 32769
-file app/Package.json $none
-run $go
-status 3
-out s.json: not built yet
 faults 0
 
 # The lock file isn't got: the desk would fail there.
@@ -726,196 +1018,33 @@ out $refused
 faults 0
 absent app/Package.resolved
 
-# The lock file, which is none, isn't got, and stays as it was.
-
-case a root that isn't built yet
-desk 3
+case the version of the tools that is running
 file s.json $shelf
-file app/Package.json {"name":"app","traits":[{"name":"x"}],$tools
-file app/Package.resolved x
-run $go
+file app/Package.json {"name":"app","toolsVersion":{"_version":"7.0.0"}}
+run resolve --shelf s.json --tools-version 7 app
+status 0
+out app: resolved 0 in 4 turns
+out $resolved
+run resolve --shelf s.json --tools-version 07.0 --enable-all-traits app
+status 0
+out app: resolved 0 in 4 turns
+out $resolved
+run resolve --shelf s.json --tools-version 6.999999999.0 app
 status 3
-out app: not built yet
+out app: Package.json needs tools 7.0.0, running 6.999999999.0
 out $refused
-faults 0
-text app/Package.resolved x
-
-case a root that isn't built yet
-desk 3
-file s.json $shelf
-file app/Package.json {"name":"app","dependencies":[{"registry":[{"identity":"mona.LinkedList","requirement":{"exact":["1.0.0"]}}]},{"registry":[{"identity":"mona.LinkedList","requirement":{"exact":["1.0.0"]}}]}],$tools
-file app/Package.resolved x
-run $go
+file app/Package.json $none
+run resolve --shelf s.json --tools-version 5.8.9 app
 status 3
-out app: not built yet
+out app: Package.json needs tools 5.9.0, running 5.8.9
 out $refused
+run resolve --shelf s.json --tools-version 5.9 app
+status 0
+out app: resolved 0 in 4 turns
+out $resolved
 faults 0
-text app/Package.resolved x
-
-case a root that isn't built yet
-desk 3
-file s.json $shelf
-file app/Package.json {"name":"app","dependencies":[{"registry":[{"identity":"mona.none","requirement":{"exact":["1.0.0"]}}]},{"registry":[{"identity":"MONA.NONE","requirement":{"exact":["2.0.0"]}}]}],$tools
-file app/Package.resolved x
-run $go
-status 3
-out app: not built yet
-out $refused
-faults 0
-text app/Package.resolved x
-
-case a root that isn't built yet
-desk 3
-file s.json $shelf
-file app/Package.json {"name":"app","dependencies":[{"sourceControl":[{"identity":"linkedlist","location":{"remote":["https://example.com/mona/LinkedList"]},"requirement":{"exact":["1.0.0"]}}]}],$tools
-file app/Package.resolved x
-run $go
-status 3
-out app: not built yet
-out $refused
-faults 0
-text app/Package.resolved x
-
-case a root that isn't built yet
-desk 3
-file s.json $shelf
-file app/Package.json {"name":"app","dependencies":[{"fileSystem":[{"identity":"linkedlist","path":"/linkedlist"}]}],$tools
-file app/Package.resolved x
-run $go
-status 3
-out app: not built yet
-out $refused
-faults 0
-text app/Package.resolved x
-
-case a root that isn't built yet
-desk 3
-file s.json $shelf
-file app/Package.json {"name":"app","dependencies":[{"registry":[{"identity":"mona.LinkedList","requirement":{"exact":["1.0.0"]},"traits":[]}]}],$tools
-file app/Package.resolved x
-run $go
-status 3
-out app: not built yet
-out $refused
-faults 0
-text app/Package.resolved x
-
-case a root that isn't built yet
-desk 3
-file s.json $shelf
-file app/Package.json {"name":"app","dependencies":[{"registry":[{"identity":"mona.LinkedList","requirement":{"exact":["1.0.0"]},"traits":[{"name":"X"}]}]}],$tools
-file app/Package.resolved x
-run $go
-status 3
-out app: not built yet
-out $refused
-faults 0
-text app/Package.resolved x
-
-case a root that isn't built yet
-desk 3
-file s.json $shelf
-file app/Package.json {"name":"app","dependencies":[{"registry":[{"identity":"mona.LinkedList","requirement":{"exact":["1.0.0"]},"traits":[{"name":"default"},{"name":"X"}]}]}],$tools
-file app/Package.resolved x
-run $go
-status 3
-out app: not built yet
-out $refused
-faults 0
-text app/Package.resolved x
-
-case a root that isn't built yet
-desk 3
-file s.json $shelf
-file app/Package.json {"name":"app","dependencies":[{"registry":[{"identity":"mona.LinkedList","requirement":{"exact":["1.0.0"]},"traits":[{"name":"default","condition":{"traits":["X"]}}]}]}],$tools
-file app/Package.resolved x
-run $go
-status 3
-out app: not built yet
-out $refused
-faults 0
-text app/Package.resolved x
-
-case a root that isn't built yet
-desk 3
-file s.json $shelf
-file app/Package.json {"name":"app","dependencies":[{"registry":[{"identity":"mona.LinkedList","requirement":{"exact":["1.0.0"]}}]}],"targets":[{"dependencies":[{"product":["L","mona.linkedlist",null,{"traits":["X"]}]}]}],$tools
-file app/Package.resolved x
-run $go
-status 3
-out app: not built yet
-out $refused
-faults 0
-text app/Package.resolved x
-
-case a root that isn't built yet
-desk 3
-file s.json $shelf
-file app/Package.json {"name":"app","dependencies":[{"registry":[{"identity":"mona.LinkedList","requirement":{"exact":["1.0.0"]}}]}],"targets":[{"dependencies":[{"byName":["Other",{"traits":["X"]}]}]}],$tools
-file app/Package.resolved x
-run $go
-status 3
-out app: not built yet
-out $refused
-faults 0
-text app/Package.resolved x
 
 # No put is made: the desk would fail there.
-
-case a version that isn't built yet
-desk 4
-file s.json $shelf
-file app/Package.json {"name":"app","dependencies":[{"registry":[{"identity":"mona.needs","requirement":$range}]}],$tools
-run $go
-status 3
-out app: not built yet
-out $refused
-faults 0
-absent app/Package.resolved
-
-case a version that isn't built yet
-desk 4
-file s.json $shelf
-file app/Package.json {"name":"app","dependencies":[{"registry":[{"identity":"mona.tools","requirement":$range}]}],$tools
-run $go
-status 3
-out app: not built yet
-out $refused
-faults 0
-absent app/Package.resolved
-
-case a version that isn't built yet
-desk 4
-file s.json $shelf
-file app/Package.json {"name":"app","dependencies":[{"registry":[{"identity":"mona.garbled","requirement":$range}]}],$tools
-run $go
-status 3
-out app: not built yet
-out $refused
-faults 0
-absent app/Package.resolved
-
-case a version that isn't built yet
-desk 4
-file s.json $shelf
-file app/Package.json {"name":"app","dependencies":[{"registry":[{"identity":"mona.traits","requirement":{"exact":["1.0.0"]}}]}],$tools
-run $go
-status 3
-out app: not built yet
-out $refused
-faults 0
-absent app/Package.resolved
-
-case a version that isn't built yet
-desk 4
-file s.json $shelf
-file app/Package.json {"name":"app","dependencies":[{"registry":[{"identity":"mona.LinkedList","requirement":$range}]},{"registry":[{"identity":"mona.needs","requirement":$range}]}],$tools
-run $go
-status 3
-out app: not built yet
-out $refused
-faults 0
-absent app/Package.resolved
 
 case the last need that no release meets is named
 desk 4
@@ -1003,6 +1132,58 @@ run $go
 status 1
 out app: no selection in 1 turns
 out 1. root needs mona.none 1.0.0..<2.0.0: [root chosen]
+out So no selection exists.
+out $refuted
+faults 0
+absent app/Package.resolved
+
+case the last need that no release meets is named
+desk 4
+file s.json $shelf
+file app/Package.json {"name":"app","dependencies":[{"registry":[{"identity":"mona.none","requirement":{"exact":["1.0.0"]}}]},{"registry":[{"identity":"MONA.NONE","requirement":{"exact":["2.0.0"]}}]}],$tools
+run $go
+status 1
+out app: no selection in 1 turns
+out 1. root needs mona.none exactly 2.0.0: [root chosen]
+out So no selection exists.
+out $refuted
+faults 0
+absent app/Package.resolved
+
+let xa xxxxxxxxxxxxxxxx
+let xb $xa$xa$xa$xa$xa$xa$xa$xa$xa$xa$xa$xa$xa$xa$xa$xa
+let xc $xb$xb$xb$xb$xb$xb$xb$xb$xb$xb$xb$xb$xb$xb$xb$xb
+let xd $xc$xc$xc$xc$xc$xc$xc$xc$xc$xc$xc$xc$xc$xc$xc$xc
+let almost $xd$xd$xd$xd$xd$xd$xd$xd$xd$xd$xd$xd$xd$xd$xd$xc$xc$xc$xc$xc$xc$xc$xc$xc$xc$xc$xc$xc$xc$xc$xb$xb$xb$xb$xb$xb$xb$xb$xb$xb$xb$xb$xb$xb$xb$xa$xa$xa$xa$xa$xa$xa$xa$xa$xa$xa$xa$xax
+
+# A manifest has at most 1,048,576 bytes, and a request 65,536.
+case the longest manifest of a release
+file s.json {"packages":{"mona.p":{"1.0.0":{"manifest":"{\"name\":\"$almost\",\"toolsVersion\":{\"_version\":\"5.9.0\"}}","archive":""}}}}
+file app/Package.json {"name":"app","dependencies":[{"registry":[{"identity":"mona.p","requirement":$range}]}],$tools
+run $go
+status 0
+out app: resolved 1 in 10 turns
+out $resolved
+
+case a manifest of a release that is one byte longer
+desk 4
+file s.json {"packages":{"mona.p":{"1.0.0":{"manifest":"{\"name\":\"x$almost\",\"toolsVersion\":{\"_version\":\"5.9.0\"}}","archive":""}}}}
+file app/Package.json {"name":"app","dependencies":[{"registry":[{"identity":"mona.p","requirement":$range}]}],$tools
+run $go
+status 3
+out app: /mona/p/1.0.0/Package.json: response too long
+out $refused
+faults 0
+absent app/Package.resolved
+
+case a URL on the shelf that no request has room for
+desk 4
+file s.json {"packages":{"mona.p":{"1.0.0":$with}},"urls":{"$xd":["mona.p"]}}
+file app/Package.json {"name":"app","dependencies":[{"sourceControl":[{"identity":"p","location":{"remote":["$xd"]},"requirement":$range}]}],$tools
+run $go
+status 1
+out app: no selection in 1 turns
+out 1. root needs "$xd", which the registry doesn't know: [root chosen]
 out So no selection exists.
 out $refuted
 faults 0
@@ -1254,13 +1435,25 @@ faults 0
 = }
 is app/Package.resolved
 
-case a pinned version is chosen where the newest isn't built
+case a pinned version comes before the newest, whose need nothing meets
 file s.json $shelf
 file app/Package.json {"name":"app","dependencies":[{"registry":[{"identity":"mona.needs","requirement":$range}]}],$tools
 file app/Package.resolved {"pins":[{"identity":"mona.needs",$pin:{"version":"1.0.0"}}],"version":3}
 run $go
 status 0
 out app: resolved 1 in 10 turns
+out $resolved
+faults 0
+has app/Package.resolved "version" : "1.0.0"
+
+# The pinned one is loaded and left out in two turns more, and the other one is chosen.
+case a pinned version that can't be chosen
+file s.json $shelf
+file app/Package.json {"name":"app","dependencies":[{"registry":[{"identity":"mona.needs","requirement":$range}]}],$tools
+file app/Package.resolved {"pins":[{"identity":"mona.needs",$pin:{"version":"1.1.0"}}],"version":3}
+run $go
+status 0
+out app: resolved 1 in 12 turns
 out $resolved
 faults 0
 has app/Package.resolved "version" : "1.0.0"
@@ -1400,6 +1593,15 @@ run $go
 status 4
 silent
 has app/Package.resolved "version" : "1.1.0"
+
+case a sink that fails gets nothing of a derivation
+sink 1
+file s.json $shelf
+file app/Package.json {"name":"app","dependencies":[{"registry":[{"identity":"mona.none","requirement":$range}]}],$tools
+run $go
+status 4
+silent
+absent app/Package.resolved
 "##;
 
 // Files of derivations: two facts on the root and a package, and their resolution, and what is wrong with others.

@@ -10,6 +10,7 @@ use std::thread::Threads;
 /// A script is lines, each a word and what stands behind it:
 ///
 /// - `let NAME TEXT`: from here on `$NAME` stands for the text; `# ..` and an empty line do nothing;
+/// - `many NAME N TEXT`: from here on `$NAME` stands for N copies of the text, joined by commas, with 0, 1 and so on in place of `%`;
 /// - `case ..`: an empty desk and an empty output; `desk N ..` and `sink N ..`: such, whose calls with these numbers fail;
 /// - `file NAME TEXT`: the file is put on the desk; `pad NAME N`: it is filled with spaces up to this length;
 /// - `run WORDS`: the program's call; `''` is the empty word;
@@ -100,6 +101,23 @@ impl Stage {
         self.lets
             .push((name, String::from_str(self.alloc, value)?))?;
         Ok(true)
+    }
+
+    // Lets a name stand for so many copies of a text, joined by commas, each with its number from 0 on in place of `%`.
+    fn repeat(&mut self, text: &str) -> Result<bool, NoMemory> {
+        let Some((name, rest)) = text.split_once(' ') else {
+            return Ok(false);
+        };
+        let (count, text) = rest.split_once(' ').unwrap_or((rest, ""));
+        let mut all = format!(in self.alloc; "{name} ")?;
+        for number in 0..count.parse().unwrap_or(0u64) {
+            if number > 0 {
+                all.push_str(",")?;
+            }
+            let number = format!(in self.alloc; "{number}")?;
+            all.push_str(replaced(self.alloc, text, "%", number.as_str())?.as_str())?;
+        }
+        self.define(all.as_str())
     }
 
     // Whether the output is what was expected.
@@ -206,6 +224,7 @@ impl Stage {
         let (word, text) = line.split_once(' ').unwrap_or((line, ""));
         match word {
             "let" => self.define(text),
+            "many" => self.repeat(text),
             "case" => self.begin(),
             "desk" => {
                 self.desk = MemoryDesk::new(self.alloc, &numbers(self.alloc, text)?)?;

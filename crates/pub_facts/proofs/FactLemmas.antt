@@ -200,7 +200,7 @@ set_terms l names (term ∷ terms) each =
     )
 
 -- the node of a term of a fact is written
-written_there : (facts : List Fact) (one : Fact) (term : Written) → Contains facts one → Contains one.terms term → Contains (written_nodes facts) term.node
+pub written_there : (facts : List Fact) (one : Fact) (term : Written) → Contains facts one → Contains one.terms term → Contains (written_nodes facts) term.node
 written_there [] one term here there = absurd (contains_nothing one here)
 written_there (first ∷ facts) one term here there = elim (contains_cases first one facts here) [
   | inl same ↦ Contains-append_left (map (λ (t : Written). t.node) first.terms) (written_nodes facts) term.node

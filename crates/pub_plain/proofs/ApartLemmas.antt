@@ -14,7 +14,7 @@ abbrev pub AreApart : List NodeName → Type 0
 AreApart names = (number : ℕ) → number < length names → number_in names (name_at names number) ≡ number
 
 -- a name that has a number keeps it over more names
-number_more : (names more : List NodeName) (node : NodeName) → number_in names node < length names
+pub number_more : (names more : List NodeName) (node : NodeName) → number_in names node < length names
     → number_in (names ++ more) node ≡ number_in names node
 number_more [] more node there = absurd (omega (arith, there))
 number_more (first ∷ names) more node there = elim (cases_Bool (node_eq first node)) [

@@ -32,3 +32,14 @@ pub mod WritingLemmas
 pub mod RefutingLemmas
 pub mod PinnedLemmas
 pub mod RefutedLemmas
+pub mod EndingLemmas
+pub mod LeftLemmas
+pub mod StepLemmas
+pub mod FewLemmas
+pub mod NumberedLemmas
+pub mod ShownLemmas
+pub mod RootLemmas
+pub mod LoadedLemmas
+pub mod NoneLemmas
+pub mod RenumberedLemmas
+pub mod FactLineLemmas

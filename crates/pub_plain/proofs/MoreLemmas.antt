@@ -346,7 +346,7 @@ module _ (job : Job) (pins : Pins) (answers more : Answers) (carries : Carries a
   root_listed names rest rooted = subst (λ all. IsListed answers (owner_node (package_of (name_at all 0)))) (sym rooted) tt
 
   -- the rules of a turn agree
-  rules_same : AreSameRules (rules_of job pins answers) (rules_of job pins more) state
+  pub rules_same : AreSameRules (rules_of job pins answers) (rules_of job pins more) state
   rules_same = record {
     root = loading_same answers more carries job state.names (load_at state.names root_place) (root_listed state.names is.rest is.rooted);
     next = next_same (next_node state.names (loaded_facts state.incompats state.origins) state.trail) refl;

@@ -228,7 +228,7 @@ with_where job c load None one term here there =
 with_where job c load (Some contents) one term here there = term_where job.asked c.lookups load contents one term here there
 
 -- each term of the facts that it brings is
-at_where : (job : Job) (c : Catalogue) (load : Load) (one : Fact) (term : Written) → Contains (facts_at job c load) one → Contains one.terms term
+pub at_where : (job : Job) (c : Catalogue) (load : Load) (one : Fact) (term : Written) → Contains (facts_at job c load) one → Contains one.terms term
     → IsWhere c.lookups term
 at_where job c load one term =
     cond_both (is_loadable job c load) (facts_of job c load) [] (λ facts. Contains facts one → Contains one.terms term → IsWhere c.lookups term)

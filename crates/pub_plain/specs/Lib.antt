@@ -13,3 +13,5 @@ pub mod Turning
 pub mod Gives
 pub mod Derivation
 pub mod Writing
+pub mod Ending
+pub mod FactLines

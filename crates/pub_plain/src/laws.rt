@@ -1,10 +1,16 @@
 //! Laws of the definitions: each function here has one as its contract, and nothing calls them.
 ghost use Rattle.pub_facts.specs.Catalogue.{Job};
-ghost use Rattle.pub_plain.specs.Answers.{Answers, AreShort, Carries, lookups_by};
+ghost use Rattle.pub_facts.specs.Enabled.{Selection};
+ghost use Rattle.pub_facts.specs.Valid.{IsValid};
+ghost use Rattle.pub_plain.specs.Answers.{Answers, AreShort, Carries, catalogue_by, lookups_by};
 ghost use Rattle.pub_plain.specs.Choosing.{Pins};
 ghost use Rattle.pub_plain.specs.Derivation.{derivation_in, pins_in};
+ghost use Rattle.pub_plain.specs.Ending.{AreFew, IsRunning, steps_left};
+ghost use Rattle.pub_plain.specs.FactLines.{IsFactLine};
+ghost use Rattle.pub_plain.specs.Gives.{IsGiven};
 ghost use Rattle.pub_plain.specs.Invariant.{IsSolver};
 ghost use Rattle.pub_plain.specs.Plain.{opening, plain_after, plain_limits, rules_of};
+ghost use Rattle.pub_plain.specs.Solver.{Solver, Turns, answers_now, turn_now};
 ghost use Rattle.pub_plain.specs.Stops.{IsAnswered, TurnStops};
 ghost use Rattle.pub_proof.specs.Checked.{checked_of};
 ghost use Rattle.pub_proof.specs.Checks.{own_facts};
@@ -13,13 +19,16 @@ ghost use Rattle.pub_term.specs.declared.term.Term.{Term};
 ghost use Rattle.pub_trail.specs.Derived.{IsHistory};
 ghost use Rattle.pub_trail.specs.First.{IsChosen, Preference};
 ghost use Rattle.pub_trail.specs.Invariant.{AreRules, IsState};
-ghost use Rattle.pub_trail.specs.Measure.{IsLast};
-ghost use Rattle.pub_trail.specs.Turn.{Refuted, State, Step, Turn, Went, turn_of};
+ghost use Rattle.pub_trail.specs.Measure.{Ends, IsLast};
+ghost use Rattle.pub_trail.specs.Turn.{Needs, Refuted, State, Step, Turn, Went, turn_of};
+ghost use Rattle.pub_trail.specs.declared.turned.Turned.TheVariants as turned;
+ghost use Rattle.spm_key.specs.declared.key.Key.{Key};
+ghost use Rattle.spm_key.specs.declared.reply.Reply.{Reply};
 ghost use Rattle.spm_version.specs.Release.{Parts};
 ghost use Rattle.std.specs.Cmp.Lexicographic.{slice_cmp};
 ghost use Rattle.std.specs.List.Sorted.{IsStrictlySortedBy};
 ghost use Rattle.std.specs.Ordering.{nat_cmp};
-ghost use Rattle.std.specs.Prelude.{◌≡◌, ℕ, Bool, List, [], IsOk, map, suc};
+ghost use Rattle.std.specs.Prelude.{◌≡◌, ◌<◌, ℕ, All, Bool, List, [], IsOk, map, suc};
 
 /// A law, with nothing to run: a turn needs a key only where nothing is said of it, and finds the versions of a package too many only
 /// where its list says so.
@@ -80,4 +89,28 @@ pub fn runs_go_on()
 pub fn pins_ascend()
     ensures { (answers : Answers) (state : State) → IsSolver answers state
         → IsStrictlySortedBy (slice_cmp nat_cmp) (map (λ (pin : List ℕ × Parts). pin.0) (pins_in (lookups_by answers) state)) }
+{}
+
+/// A law, with nothing to run: a resolution ends. A number falls at each turn that goes on and at each reply that a turn needs, whatever
+/// the replies are; and over one lot of replies there is a number of turns after which a solver has ended, or asks for a key.
+pub fn resolutions_end()
+    ensures turned { (old new : Solver) → IsRunning (answers_now old) old.state → AreFew (answers_now old) → Turns turned.Went old new
+        → steps_left new < steps_left old }
+    ensures given { (asked : Key) (reply : Reply) (old new : Solver) → IsRunning (answers_now old) old.state → AreFew (answers_now old)
+        → turn_now old ≡ Needs asked → IsGiven asked reply old new → steps_left new < steps_left old }
+    ensures few { (asked : Key) (reply : Reply) (old new : Solver) → AreFew (answers_now old) → IsGiven asked reply old new
+        → AreFew (answers_now new) }
+    ensures ends { (job : Job) (pins : Pins) (answers : Answers) → AreShort answers → Ends (rules_of job pins answers) opening }
+{}
+
+/// A law, with nothing to run: where a solver refutes, each fact line of its derivation is one of the facts of a load that was done, and
+/// there is no valid selection, in any catalogue that says the same of the keys that were given.
+pub fn a_refutation_means_none()
+    ensures facts { (same : Cause → Cause → Bool) (job : Job) (pins : Pins) (answers : Answers) (n : ℕ) (state : State) (terms : List Term)
+        (first : ℕ) (steps : List Step) → AreShort answers → plain_after job pins answers n ≡ Went state
+        → turn_of (rules_of job pins answers) state ≡ Refuted terms first steps
+        → All (IsFactLine job answers state) (derivation_in same (lookups_by answers) state first steps).lines }
+    ensures none { (job : Job) (pins : Pins) (answers more : Answers) (n : ℕ) (state : State) (terms : List Term) (first : ℕ) (steps : List Step)
+        (selection : Selection) → AreShort answers → AreShort more → Carries answers more → plain_after job pins answers n ≡ Went state
+        → turn_of (rules_of job pins answers) state ≡ Refuted terms first steps → IsValid job (catalogue_by more) selection → ⊥ }
 {}

@@ -15,7 +15,8 @@
 //! What that means is said by laws over the definitions: a turn needs only what isn't given ([`a_turn_needs_what_is_not_given`]), the
 //! rules are right at each state that a run comes to ([`the_rules_are_right`], [`a_solver_opens_right`]), what is said of more keys
 //! changes nothing that was done ([`more_answers_change_nothing`], [`runs_go_on`]), a refutation's derivation is checked by its own
-//! facts ([`a_refutation_is_checked`]), and pins ascend ([`pins_ascend`]).
+//! facts ([`a_refutation_is_checked`]), which are those of loads, so that there is no valid selection ([`a_refutation_means_none`]), pins
+//! ascend ([`pins_ascend`]), and a number falls at each turn and each reply that a turn needs, so a resolution ends ([`resolutions_end`]).
 //!
 //! How the code goes: what was said is kept as `Told`, the state as `Lists`, oldest first (`specs/Kept.antt`), and what is left of each
 //! node is worked out once a turn. A load goes through its keys (`reading`), then names its nodes and makes its facts (`loading`); the
@@ -46,8 +47,9 @@ mod turning;
 mod writing;
 
 pub use laws::{
-    a_refutation_is_checked, a_solver_opens_right, a_turn_needs_what_is_not_given,
-    more_answers_change_nothing, pins_ascend, runs_go_on, the_rules_are_right,
+    a_refutation_is_checked, a_refutation_means_none, a_solver_opens_right,
+    a_turn_needs_what_is_not_given, more_answers_change_nothing, pins_ascend, resolutions_end,
+    runs_go_on, the_rules_are_right,
 };
 pub use plain::Plain;
 pub use preference::{pin_of, preferred};

@@ -22,19 +22,19 @@ use Rattle.pub_trail.proofs.SumLemmas.{derived_left, left_bound, levels_bound}
 use Rattle.pub_trail.proofs.TurnLemmas.{conflict_asked, decided_keeps, forced_almost, turn_cases, turn_keeps}
 
 -- what a turn that goes on has done: loaded a place, or lowered the measure and no more
-abbrev Lowers : State → State → Type 0
+abbrev pub Lowers : State → State → Type 0
 Lowers state next = (next.sizes ≡ state.sizes) × (next.loads ≡ state.loads) × (measure_of next < measure_of state)
 
 -- the turn loaded a place that wasn't loaded
-record IsLoad (limits : Limits) (state next : State) : Type 0 where
-  place : Place
-  loads : next.loads ≡ state.loads ++ place ∷ []
-  new : is_loaded state place ≡ false
-  within : IsWithin limits place
-  small : IsSmall limits next.sizes
+pub record IsLoad (limits : Limits) (state next : State) : Type 0 where
+  pub place : Place
+  pub loads : next.loads ≡ state.loads ++ place ∷ []
+  pub new : is_loaded state place ≡ false
+  pub within : IsWithin limits place
+  pub small : IsSmall limits next.sizes
 
 -- a turn that goes on has done one of the two
-abbrev Goes : Limits → State → Turn → Type 0
+abbrev pub Goes : Limits → State → Turn → Type 0
 Goes limits state (Went next) = IsLoad limits state next ⊎ Lowers state next
 Goes limits state (Needs key) = Unit {0}
 Goes limits state (TooWide wide) = Unit {0}
@@ -46,7 +46,7 @@ base_some : (sizes : List ℕ) → 0 < 2 * all_choices sizes + 3
 base_some sizes = omega arith
 
 -- a present digit is at most twice the choices left, and one more
-digit_within : (state : State) → present_digit state ≤ 2 * choices_left state.sizes state.trail + 1
+pub digit_within : (state : State) → present_digit state ≤ 2 * choices_left state.sizes state.trail + 1
 digit_within state =
     elim (cases_Bool (is_busy state)) [
       | inl busy ↦ omega (arith, cond-true {A = ℕ} (is_busy state) 0 1 busy)
@@ -195,7 +195,7 @@ outcome_goes facts limits state first is within (Learns terms steps level) same 
 -- ---- all turns
 
 -- each turn loads or lowers the measure
-turn_goes : (facts : List (List Term)) (limits : Limits) (rules : Rules) (state : State) → IsState facts state → IsSmall limits state.sizes
+pub turn_goes : (facts : List (List Term)) (limits : Limits) (rules : Rules) (state : State) → IsState facts state → IsSmall limits state.sizes
     → AreRules limits rules facts state → Goes limits state (turn_of rules state)
 turn_goes facts limits rules state is small are = turn_cases rules state (Goes limits state) (record {
   loads_root = λ new. load_goes facts limits rules state root_place are new are.root (rules.load state root_place) refl;

@@ -1,5 +1,5 @@
 -- A resolution over the replies so far, turn by turn and reply by reply.
-use Rattle.std.proofs.Common.{◌≡◌, ℕ, suc, ◌≤◌, Bool, true, false, cond, List, length, map, Option, Some, None, Result, Ok, Err, option_map, refl, sym, ap, ◌∙◌, subst, arith, inl, inr}
+use Rattle.std.proofs.Common.{◌≡◌, ℕ, suc, ◌<◌, ◌≤◌, Bool, true, false, cond, List, length, map, Option, Some, None, Result, Ok, Err, option_map, refl, sym, ap, ◌∙◌, subst, arith, inl, inr}
 use Rattle.std.proofs.Math.Path.{fun_ext}
 use Rattle.std.proofs.lemmas.Bool.{cases_Bool, cond-false, cond-true}
 use Rattle.std.specs.FinMap as finite
@@ -9,6 +9,7 @@ use Rattle.pub_facts.specs.Catalogue.{Job}
 use Rattle.pub_plain.specs.Answers.{AreShort, Carries, answers_of, lookups_by, unless_refused}
 use Rattle.pub_plain.specs.Choosing.{Pins}
 use Rattle.pub_plain.specs.Derivation.{choice_texts, derivation_in, ordered, pins_in}
+use Rattle.pub_plain.specs.Ending.{AreFew, IsRunning, steps_left}
 use Rattle.pub_plain.specs.Given.{with_said}
 use Rattle.pub_plain.specs.Gives.{IsGiven}
 use Rattle.pub_plain.specs.Invariant.{IsSolver}
@@ -16,9 +17,11 @@ use Rattle.pub_plain.specs.Plain.{opening, plain_after, rules_of}
 use Rattle.pub_plain.specs.Solver.{Solver, Turns, answers_now, counted, opened, turn_now}
 use Rattle.pub_plain.specs.Stops.{IsRead, TurnStops}
 use Rattle.pub_plain.proofs.DerivationLemmas.{refutation_checked}
+use Rattle.pub_plain.proofs.EndingLemmas.{run_running}
 use Rattle.pub_plain.proofs.PlainLemmas.{carries_more, says_kind}
 use Rattle.pub_plain.proofs.RunLemmas.{run_same, run_solver, run_step}
 use Rattle.pub_plain.proofs.StopLemmas.{turn_stops}
+use Rattle.pub_plain.proofs.StepLemmas.{answers_few, given_falls, turned_falls}
 use Rattle.pub_plain.proofs.TextLemmas.{lengths-choice_texts}
 use Rattle.pub_facts.proofs.FactLemmas.{sizes_length}
 use Rattle.pub_proof.specs.declared.derivation.Derivation.{Derivation}
@@ -337,3 +340,24 @@ pub ends_before : (same : Cause → Cause → Bool) (book : Option Pages) (base 
     → IsReadyEnd same book base old.job old.pins it
 ends_before same book base old new it is ends =
     subst (λ (s : Solver). IsRun book base s → IsReadyEnd same book base s.job s.pins it) is ends
+
+-- ---- the end
+
+-- each state of a run is one of a solver's
+run_is_running : (book : Option Pages) (base : Base) (solver : Solver) → IsRun book base solver → IsRunning (answers_now solver) solver.state
+run_is_running book base solver run =
+    run_running solver.job solver.pins (answers_now solver) run.count solver.state (subst AreShort (sym run.answers) (replies_short run.c))
+    (ap (λ answers. plain_after solver.job solver.pins answers run.count) run.answers ∙ run.after)
+
+-- a turn leaves less to do
+pub turn_falls : (book : Option Pages) (base : Base) (old new : Solver) → Turns turned.Went old new → IsRun book base old
+    → steps_left new < steps_left old
+turn_falls book base old new went run =
+    turned_falls old new (run_is_running book base old run) (subst AreFew (sym run.answers) (answers_few run.c)) went
+
+-- and so does a reply that it needs
+pub give_falls : (book : Option Pages) (base : Base) (asked : Key) (reply : Reply) (old new : Solver) (result : Result ⊤ Outcome)
+    → turn_now old ≡ Needs asked → OnOk result (IsGiven asked reply old new) → OnOk result (IsRun book base old → steps_left new < steps_left old)
+give_falls book base asked reply old new (Ok done) needs given = λ run.
+    given_falls asked reply old new (run_is_running book base old run) (subst AreFew (sym run.answers) (answers_few run.c)) needs given
+give_falls book base asked reply old new (Err it) needs given = tt

@@ -7,16 +7,21 @@
 //! The contract that the layers above use is the clause `end` of [`run_alone`]: the outcome is that of the definition over replies of the
 //! link's book, or a fault of the link at a demanded key, or want of memory.
 //!
+//! What a refutation means is a law: the root has no valid selection ([`a_refuted_root_has_no_selection`]).
+//!
 //! How the proof goes: at each moment the solver has done what a plain resolution over the replies so far does (`IsRun` of
 //! `specs/Run.antt`). A turn goes on from there; a reply that is given changes none of the turns that were done (`runs_go_on` of
 //! `pub_plain`), and one that is refused says nothing (`proofs/RunLemmas`).
+//! A number falls at each turn and at each reply (`resolutions_end`), so the loop comes to its end.
 #![tactic(auto)]
 
 mod job;
+mod laws;
 mod outcome;
 mod run;
 mod shared;
 
 pub use job::{RootInput, RootJob};
+pub use laws::a_refuted_root_has_no_selection;
 pub use outcome::Outcome;
 pub use run::run_alone;

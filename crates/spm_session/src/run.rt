@@ -1,5 +1,6 @@
 // A resolution over a link.
-ghost use Rattle.std.specs.Prelude.{◌≡◌, ℕ, IfErr, IfOk, List, OnErr, OnOk, Option};
+ghost use Rattle.std.specs.Prelude.{◌≡◌, ◌<◌, ℕ, IfErr, IfOk, List, OnErr, OnOk, Option};
+ghost use Rattle.pub_plain.specs.Ending.{steps_left};
 ghost use Rattle.pub_plain.specs.Gives.{IsGiven};
 ghost use Rattle.pub_plain.specs.Solver.{turn_now};
 ghost use Rattle.pub_term.specs.declared.term.Term.{Term};
@@ -29,7 +30,6 @@ use spm_key::{Key, Reply};
 use spm_outside::{Link, LinkFault};
 use spm_version::NoMemory;
 use std::alloc::Global;
-use std::sync::Wait;
 
 // The outcome of a selection.
 fn resolved(plain: &Plain) -> Outcome
@@ -101,6 +101,7 @@ fn demand<L: Link>(
     requires { turn_now plain.old ≡ Needs key }
     ensures run { OnOk result (IsRun (L.state link.old).book base.now plain.old → IsRun (L.state link.old).book base.now plain.new) }
     ensures job { OnOk result ((plain.new.job ≡ plain.old.job) × (plain.new.pins ≡ plain.old.pins)) }
+    ensures falls { OnOk result (IsRun (L.state link.old).book base.now plain.old → steps_left plain.new < steps_left plain.old) }
     ensures end { IfErr result (λ it. IsRun (L.state link.old).book base.now plain.old
         → IsReadyEnd ⟦<Cause as PartialEq>⟧.eq (L.state link.old).book base.now plain.old.job plain.old.pins it) }
     ensures told { IfErr result (λ it. IsRun (L.state link.old).book base.now plain.old → CanBeTold it) }
@@ -119,6 +120,7 @@ fn demand<L: Link>(
 fn step<L: Link>(alloc: Global, plain: &mut Plain, base: &Base, link: &mut L) -> Result<(), Outcome>
     ensures run { OnOk result (IsRun (L.state link.old).book base.now plain.old → IsRun (L.state link.old).book base.now plain.new) }
     ensures job { OnOk result ((plain.new.job ≡ plain.old.job) × (plain.new.pins ≡ plain.old.pins)) }
+    ensures falls { OnOk result (IsRun (L.state link.old).book base.now plain.old → steps_left plain.new < steps_left plain.old) }
     ensures end { IfErr result (λ it. IsRun (L.state link.old).book base.now plain.old
         → IsReadyEnd ⟦<Cause as PartialEq>⟧.eq (L.state link.old).book base.now plain.old.job plain.old.pins it) }
     ensures told { IfErr result (λ it. IsRun (L.state link.old).book base.now plain.old → CanBeTold it) }
@@ -135,13 +137,7 @@ fn step<L: Link>(alloc: Global, plain: &mut Plain, base: &Base, link: &mut L) ->
 }
 
 // Turns the solver to its end.
-fn turn_on<R: Wait, L: Link>(
-    rt: &R,
-    alloc: Global,
-    plain: Plain,
-    base: &Base,
-    link: &mut L,
-) -> Outcome
+fn turn_on<L: Link>(alloc: Global, plain: Plain, base: &Base, link: &mut L) -> Outcome
     requires { IsRun (L.state link.old).book base.now plain }
     ensures end { IsReadyEnd ⟦<Cause as PartialEq>⟧.eq (L.state link.old).book base.now plain.job plain.pins result }
     ensures told { CanBeTold result }
@@ -149,24 +145,17 @@ fn turn_on<R: Wait, L: Link>(
     ensures book { (L.state link.new).book ≡ (L.state link.old).book }
 {
     let mut plain = plain;
-    for _ in rt.forever() {
+    loop {
         if let Err(outcome) = step(alloc, &mut plain, base, link) {
             return outcome;
         }
     }
-    unreachable!()
 }
 
 /// Resolves a root over a link: the plain resolution, in one thread. It fetches each key that the solver demands, once, in the order of
-/// first demand. It waits where a turn comes to no end, so it owes no return; what it returns is the outcome of the definition over
-/// replies of the link's book, or a fault of the link, or want of memory.
-pub fn run_alone<R: Wait, L: Link>(
-    rt: &R,
-    alloc: Global,
-    job: RootJob,
-    base: &Base,
-    link: &mut L,
-) -> Outcome
+/// first demand. It returns, whatever the link answers, where each of the link's calls does; what it returns is the outcome of the
+/// definition over replies of the link's book, or a fault of the link, or want of memory.
+pub fn run_alone<L: Link>(alloc: Global, job: RootJob, base: &Base, link: &mut L) -> Outcome
     requires { IsInput job.input }
     ensures end { IsEnd ⟦<Cause as PartialEq>⟧.eq (L.state link.old).book base.now job result }
     // A refutation can be put into words (`explain` of `spm_explain`).
@@ -185,7 +174,7 @@ pub fn run_alone<R: Wait, L: Link>(
         RootInput::Ready { manifest, pins, .. } => (manifest, pins),
     };
     match Plain::new(alloc, manifest, asked, pins, tools) {
-        Ok(plain) => turn_on(rt, alloc, plain, base, link),
+        Ok(plain) => turn_on(alloc, plain, base, link),
         Err(NoMemory) => Outcome::Memory,
     }
 }

@@ -12,12 +12,10 @@ use Rattle.pub_term.specs.declared.term.Term.{Term}
 use Rattle.spm_json.specs.Reading.{Reading}
 use Rattle.spm_outside.specs.Desk.{DeskState}
 use Rattle.spm_outside.specs.Sink.{SinkState}
-use Rattle.spm_version.specs.Kind.{kind_text}
-use Rattle.spm_version.specs.declared.kind.Kind.{Kind}
 use Rattle.spm_tool.specs.Left.{FaultLeft}
-use Rattle.spm_tool.specs.Report.{line_end}
+use Rattle.spm_tool.specs.Report.{line_end, unreadable_text}
 use Rattle.spm_tool.specs.Resolves.{RefusesWords, Tells}
-use Rattle.spm_tool.specs.Words as words
+use Rattle.spm_tool.specs.Words.{proof_of}
 use Rattle.spm_tool.specs.declared.check.CheckEnding.{CheckEnding}
 use Rattle.spm_tool.specs.declared.check.CheckEnding.TheVariants.{Missing, Unreadable, Fault, Holds, Fails, Memory}
 
@@ -57,9 +55,6 @@ faulty_check file ending = None
 
 -- ---- the line and the status
 
-abbrev pub unreadable_text : List ℕ → Kind → List ℕ
-unreadable_text place kind = codes "unreadable at " ++ (place ++ (codes ": " ++ kind_text kind))
-
 abbrev pub check_report : List ℕ → CheckEnding → List ℕ
 check_report file Missing = file ++ (codes ": missing" ++ line_end)
 check_report file (Unreadable place kind) = file ++ (codes ": " ++ (unreadable_text place kind ++ line_end))
@@ -85,10 +80,9 @@ pub record ChecksFile (file : List ℕ) (before after : DeskState) (sink_before 
   pub files : after.files ≡ before.files
   pub report : Tells (check_report file ending) (check_status ending) sink_before sink_after status
 
-abbrev pub StillBy : Option words.Command → DeskState → DeskState → SinkState → SinkState → ℕ → Type 0
-StillBy (Some (words.check file)) before after sink_before sink_after status = ChecksFile file before after sink_before sink_after status
-StillBy (Some (words.resolve order)) before after sink_before sink_after status = RefusesWords before after sink_before sink_after status
+abbrev pub StillBy : Option (List ℕ) → DeskState → DeskState → SinkState → SinkState → ℕ → Type 0
+StillBy (Some file) before after sink_before sink_after status = ChecksFile file before after sink_before sink_after status
 StillBy None before after sink_before sink_after status = RefusesWords before after sink_before sink_after status
 
 abbrev pub Still : List (List ℕ) → DeskState → DeskState → SinkState → SinkState → ℕ → Type 0
-Still given before after sink_before sink_after status = StillBy (words.command_of given) before after sink_before sink_after status
+Still given before after sink_before sink_after status = StillBy (proof_of given) before after sink_before sink_after status

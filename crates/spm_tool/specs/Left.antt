@@ -41,7 +41,7 @@ FaultLeft None before after = (after.failed ≡ before.failed) × (after.faults 
 
 -- The lock file is put where the root was resolved, and is unknown where its put failed; nothing else changes.
 abbrev pub RootFilesLeft : List ℕ → RootEnding → Option FileMap → Option FileMap → Type 0
-RootFilesLeft root (Resolved text count) old new = new ≡ option_map (λ files. map.insert files (lock_name root) text) old
+RootFilesLeft root (Resolved text count turns) old new = new ≡ option_map (λ files. map.insert files (lock_name root) text) old
 RootFilesLeft root (Fault PutLock) old new = OthersStay (lock_name root) old new
 RootFilesLeft root ending old new = new ≡ old
 

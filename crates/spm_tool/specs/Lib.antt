@@ -1,9 +1,7 @@
 pub mod Words
 pub mod WordsView
-pub mod Selection
-pub mod Views
-pub mod Newest
-pub mod Chosen
+pub mod Faultless
+pub mod Shelf
 pub mod Ending
 pub mod Left
 pub mod Steps

@@ -1,6 +1,7 @@
 -- The contract of `resolve`: the words and the bytes of the files decide the ending, and the ending decides the report,
 -- the status and the files after. Faults are tied to the counts of the desk and the sink; want of memory is free.
-use Rattle.std.specs.Prelude.{◌≡◌, ℕ, List, Option, Some, None, IfSome, Result, ⊤}
+use Rattle.std.specs.Prelude.{◌≡◌, ◌⊎◌, ℕ, Bool, List, Option, Some, None, IfSome, Result, ⊤}
+use Rattle.pub_term.specs.declared.cause.Cause.{Cause}
 use Rattle.spm_outside.specs.Desk.{DeskState}
 use Rattle.spm_outside.specs.Faults.{FaultsAfter}
 use Rattle.spm_outside.specs.Sink.{PutsAll, SinkState}
@@ -8,7 +9,7 @@ use Rattle.spm_outside.specs.declared.fault.CallFault.{CallFault}
 use Rattle.spm_tool.specs.Ending.{IsEnding}
 use Rattle.spm_tool.specs.Left.{FaultLeft, FilesLeft, faulty_file}
 use Rattle.spm_tool.specs.Report.{report_of, status_after, status_of, words_report}
-use Rattle.spm_tool.specs.Words.{Command, Order, check, command_of, resolve}
+use Rattle.spm_tool.specs.Words.{Order, order_of}
 use Rattle.spm_tool.specs.declared.ending.Ending.{Ending}
 
 -- the text is written, or a part of it from the front on where the sink failed or memory ran out
@@ -27,10 +28,10 @@ pub record Tells (report : List ℕ) (ending_status : ℕ) (before after : SinkS
   pub answer : Option (Result ⊤ CallFault)
   pub told : TellsBy answer report ending_status before after status
 
--- a run with accepted words
-pub record Runs (order : Order) (before after : DeskState) (sink_before sink_after : SinkState) (status : ℕ) : Type 0 where
+-- a run with accepted words; `same` says which causes are equal
+pub record Runs (same : Cause → Cause → Bool) (order : Order) (before after : DeskState) (sink_before sink_after : SinkState) (status : ℕ) : Type 0 where
   pub ending : Ending
-  pub told : IfSome before.files (λ files. IsEnding order files ending)
+  pub told : IfSome before.files (λ files. IsEnding same order files ending)
   pub fault : FaultLeft (faulty_file order ending) before after
   pub files : FilesLeft order ending before.files after.files
   pub report : Tells (report_of order ending) (status_of ending) sink_before sink_after status
@@ -41,10 +42,16 @@ pub record RefusesWords (before after : DeskState) (sink_before sink_after : Sin
   pub report : (answer : Result ⊤ CallFault) × Writes words_report sink_before sink_after answer
   pub is_two : status ≡ 2
 
-abbrev pub ResolvesBy : Option Command → DeskState → DeskState → SinkState → SinkState → ℕ → Type 0
-ResolvesBy (Some (resolve order)) before after sink_before sink_after status = Runs order before after sink_before sink_after status
-ResolvesBy (Some (check file)) before after sink_before sink_after status = RefusesWords before after sink_before sink_after status
-ResolvesBy None before after sink_before sink_after status = RefusesWords before after sink_before sink_after status
+abbrev pub ResolvesBy : (Cause → Cause → Bool) → Option Order → DeskState → DeskState → SinkState → SinkState → ℕ → Type 0
+ResolvesBy same (Some order) before after sink_before sink_after status = Runs same order before after sink_before sink_after status
+ResolvesBy same None before after sink_before sink_after status = RefusesWords before after sink_before sink_after status
 
-abbrev pub Resolves : List (List ℕ) → DeskState → DeskState → SinkState → SinkState → ℕ → Type 0
-Resolves words before after sink_before sink_after status = ResolvesBy (command_of words) before after sink_before sink_after status
+-- memory ran out before the words were read
+pub record Stops (before after : DeskState) (sink_before sink_after : SinkState) (status : ℕ) : Type 0 where
+  pub desk : after ≡ before
+  pub sink : sink_after ≡ sink_before
+  pub is_six : status ≡ 6
+
+abbrev pub Resolves : (Cause → Cause → Bool) → List (List ℕ) → DeskState → DeskState → SinkState → SinkState → ℕ → Type 0
+Resolves same words before after sink_before sink_after status =
+    ResolvesBy same (order_of words) before after sink_before sink_after status ⊎ Stops before after sink_before sink_after status

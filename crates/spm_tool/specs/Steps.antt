@@ -1,12 +1,11 @@
 -- What the steps of a root's run answer.
 use Rattle.std.specs.Prelude.{◌≡◌, ℕ, List, Option, None, Result, Ok, Err}
+use Rattle.spm_session.specs.declared.outcome.Outcome.TheVariants as outcome
 use Rattle.spm_shelf.specs.declared.file.ShelfFile.{ShelfFile}
-use Rattle.spm_tool.specs.Ending.{IsShelfEnding, shelf_in}
 use Rattle.spm_tool.specs.Left.{faulty_root_file, faulty_shelf_file}
 use Rattle.spm_tool.specs.declared.ending.RootCall.{RootCall}
-use Rattle.spm_tool.specs.declared.ending.RootCall.TheVariants.{PutLock}
 use Rattle.spm_tool.specs.declared.ending.RootEnding.{RootEnding}
-use Rattle.spm_tool.specs.declared.ending.RootEnding.TheVariants.{Fault, Memory, Resolved}
+use Rattle.spm_tool.specs.declared.ending.RootEnding.TheVariants.{Fault, Ended}
 use Rattle.spm_tool.specs.declared.ending.ShelfEnding.{ShelfEnding}
 
 -- the file on which a step failed, if it did
@@ -16,7 +15,7 @@ faulty_in_step root (Err ending) = faulty_root_file root ending
 
 -- a step with this call of the desk is refused as `step` says, unless memory runs out or the call fails
 abbrev pub IsRefusal : {A : Type 0} → RootCall → RootEnding → Result A RootEnding → Type 0
-IsRefusal call Memory step = Unit {0}
+IsRefusal call (Ended outcome.Memory) step = Unit {0}
 IsRefusal call (Fault failed) step = failed ≡ call
 IsRefusal call ending step = step ≡ Err ending
 
@@ -25,30 +24,15 @@ abbrev pub Steps : {A : Type 0} → RootCall → Result A RootEnding → Result 
 Steps call (Ok answer) step = step ≡ Ok answer
 Steps call (Err ending) step = IsRefusal call ending step
 
--- the same of a step without a call, by the view of its answer
+-- the same of a step without a call
 abbrev pub Refuses : {A : Type 0} → RootEnding → Result A RootEnding → Type 0
-Refuses Memory step = Unit {0}
+Refuses (Ended outcome.Memory) step = Unit {0}
 Refuses (Fault call) step = ⊥
 Refuses ending step = step ≡ Err ending
-
-abbrev pub ComputesBy : {A B : Type 0} → (A → B) → Result A RootEnding → Result B RootEnding → Type 0
-ComputesBy view (Ok answer) step = step ≡ Ok (view answer)
-ComputesBy view (Err ending) step = Refuses ending step
 
 abbrev pub Computes : {A : Type 0} → Result A RootEnding → Result A RootEnding → Type 0
 Computes (Ok answer) step = step ≡ Ok answer
 Computes (Err ending) step = Refuses ending step
-
--- the put of the lock file, with the text and the number of its pins
-abbrev pub IsPutEnding : List ℕ → ℕ → RootEnding → Type 0
-IsPutEnding text count Memory = Unit {0}
-IsPutEnding text count (Fault call) = call ≡ PutLock
-IsPutEnding text count ending = ending ≡ Resolved text count
-
--- the get of the shelf
-abbrev pub ReadsShelf : Result ShelfFile ShelfEnding → Option (List ℕ) → Type 0
-ReadsShelf (Ok found) content = shelf_in content ≡ Ok found
-ReadsShelf (Err ending) content = IsShelfEnding content ending
 
 -- the shelf's file, where the desk failed at it
 abbrev pub faulty_shelf : List ℕ → Result ShelfFile ShelfEnding → Option (List ℕ)

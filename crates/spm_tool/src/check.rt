@@ -8,14 +8,14 @@ ghost use Rattle.spm_tool.specs.Check.{
   check_read,
   check_report,
   faulty_check,
-  unreadable_text,
   verdict,
 };
 ghost use Rattle.spm_tool.specs.Left.{FaultLeft};
 
+use crate::report::unreadable_text;
 use pub_proof::{Derivation, ProofFault, ProofFileFault, ProofKind, check};
 use spm_outside::{Desk, DeskFault};
-use spm_version::{Kind, NoMemory, Text};
+use spm_version::{Bytes, Kind, NoMemory, Text};
 use std::alloc::Global;
 
 /// How the check of a derivation's file ends.
@@ -75,15 +75,8 @@ pub fn check_file<D: Desk>(alloc: Global, file: &str, desk: &mut D) -> CheckEndi
     }
 }
 
-// What the line on an unreadable file says behind its name.
-fn unreadable_text(alloc: Global, place: &Text, kind: Kind) -> Result<String, NoMemory>
-    ensures { IfOk result (λ text. string_bytes text ≡ unreadable_text place.now kind) }
-{
-    format!(in alloc; "unreadable at {place}: {kind}")
-}
-
 // The line on a check.
-pub fn check_report(alloc: Global, file: &str, ending: &CheckEnding) -> Result<String, NoMemory>
+fn check_line(alloc: Global, file: &str, ending: &CheckEnding) -> Result<String, NoMemory>
     ensures { IfOk result (λ text. string_bytes text ≡ check_report file.now ending.now) }
 {
     match ending {
@@ -99,4 +92,12 @@ pub fn check_report(alloc: Global, file: &str, ending: &CheckEnding) -> Result<S
         }
         CheckEnding::Memory => Ok(String::new(alloc)),
     }
+}
+
+// The same in bytes.
+pub fn check_report(alloc: Global, file: &str, ending: &CheckEnding) -> Result<Bytes, NoMemory>
+    ensures { IfOk result (λ report. report ≡ check_report file.now ending.now) }
+{
+    let line = check_line(alloc, file, ending)?;
+    Ok(Bytes::from_vec(line.into_bytes()))
 }

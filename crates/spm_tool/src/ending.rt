@@ -1,9 +1,10 @@
 ghost use Rattle.std.specs.Prelude.{◌≡◌};
-ghost use Rattle.spm_tool.specs.declared.ending.RootEnding.TheVariants as root;
+ghost use Rattle.spm_session.specs.declared.outcome.Outcome.TheVariants as outcome;
+ghost use Rattle.spm_tool.specs.declared.ending.RootEnding.TheVariants.{Ended};
 ghost use Rattle.spm_tool.specs.declared.ending.ShelfEnding.TheVariants as shelf;
 
-use spm_ident::Identity;
-use spm_version::{Bytes, Kind, NoMemory, Requirement, Text, ToolsVersion};
+use spm_session::Outcome;
+use spm_version::{Bytes, Kind, NoMemory, Text};
 
 /// A call of the desk for a root.
 #[derive(Clone, Copy, Debug, PartialEq, Eq)]
@@ -19,40 +20,30 @@ pub enum RootCall {
 /// How a root ends.
 #[derive(Debug, Drop)]
 pub enum RootEnding {
-    /// There is no `Package.json`.
-    Missing,
-    /// `Package.json` is no manifest: the place and the kind of its first fault.
-    Unreadable(Text, Kind),
-    /// `Package.json` needs these tools, which are newer than the running ones.
-    TooNew(ToolsVersion),
-    /// The root has what is not built yet.
-    NotBuilt,
     /// The desk failed at this call.
     Fault(RootCall),
-    /// `Package.resolved` is no lock file of version 3: the place and the kind of its first fault.
-    LockUnreadable(Text, Kind),
-    /// No release of this package is in what the root requires of it.
-    Refuted(Identity, Requirement),
-    /// The lock file with this text and so many pins was put.
-    Resolved(Bytes, usize),
-    /// Want of memory.
-    Memory,
+    /// The lock file with this text was put: the number of its pins, and of the turns.
+    Resolved(Bytes, usize, u64),
+    /// Nothing was put.
+    Ended(Outcome),
 }
 
 impl From<NoMemory> for RootEnding {
-    ghost from_gives = { λ _ ending. ending ≡ root.Memory };
+    ghost from_gives = { λ _ ending. ending ≡ Ended outcome.Memory };
 
     fn from(_e: NoMemory) -> RootEnding {
-        RootEnding::Memory
+        RootEnding::Ended(Outcome::Memory)
     }
 }
 
 /// How a run ends that has no shelf to resolve with.
-#[derive(Clone, Copy, Debug, PartialEq, Eq)]
+#[derive(Debug, Drop)]
 pub enum ShelfEnding {
     /// There is no shelf file.
     Missing,
-    /// The shelf file is none, or has what is not built yet.
+    /// The file is no shelf: the place and the kind of its first fault.
+    Unreadable(Text, Kind),
+    /// The shelf has what is not built yet.
     NotBuilt,
     /// The desk failed at the shelf file.
     Fault,

@@ -1,65 +1,77 @@
-ghost use Rattle.std.specs.Prelude.{◌≡◌, ◌≢◌, Ok, Err, Some, None, IfOk, IfErr};
+// The shelf's file.
+ghost use Rattle.std.specs.Prelude.{◌≡◌, IfSome};
+ghost use Rattle.std.specs.FinMap as map;
 ghost use Rattle.std.specs.List.{list_all};
-ghost use Rattle.spm_tool.specs.Selection.{is_plain_package, is_plain_release, plain_shelf_of};
+ghost use Rattle.spm_tool.specs.Left.{FaultLeft};
+ghost use Rattle.spm_tool.specs.Shelf.{ReadsBytes, ReadsShelf, is_built_package, is_built_release, is_built_shelf, is_over};
+ghost use Rattle.spm_tool.specs.Steps.{faulty_shelf};
 
-use spm_json::ReadFault;
-use spm_shelf::{ShelfFile, ShelfPackage, ShelfRelease};
-use spm_version::NoMemory;
+use crate::ending::ShelfEnding;
+use spm_outside::{Desk, DeskFault};
+use spm_shelf::{Archive, Shelf, ShelfFault, ShelfPackage, ShelfRelease};
 use std::alloc::Global;
 
-// How long a shelf file may be, in bytes.
-const MAX_SHELF: usize = 32768;
+/// How long an archive on a shelf may be, in bytes.
+const MAX_ARCHIVE: usize = 67108864;
+
+// Whether an archive is longer than is built so far.
+fn is_over(archive: &Option<Archive>) -> bool
+    ensures { result ≡ is_over archive.now }
+{
+    match archive {
+        Some(archive) => MAX_ARCHIVE < archive.bytes().len(),
+        None => false,
+    }
+}
 
 // Whether a release on a shelf has only what is built so far.
-fn is_plain_release(alloc: Global, release: &ShelfRelease) -> Result<bool, NoMemory>
-    ensures { IfOk result (λ plain. plain ≡ is_plain_release release.now) }
+fn is_built_release(release: &ShelfRelease) -> bool
+    ensures { result ≡ is_built_release release.now }
 {
-    if release.problem.is_some() || release.checksum.is_some() {
-        return Ok(false);
-    }
-    let ends = release.release.ends_in_zip(alloc)?;
-    Ok(!ends)
+    release.checksum.is_none() && !is_over(&release.archive)
 }
 
 // Whether each release of a package on a shelf has only what is built so far.
-fn is_plain_package(alloc: Global, entry: &ShelfPackage) -> Result<bool, NoMemory>
-    ensures { IfOk result (λ plain. plain ≡ is_plain_package entry.now) }
+fn is_built_package(entry: &ShelfPackage) -> bool
+    ensures { result ≡ is_built_package entry.now }
 {
-    for release in entry.releases.as_slice() {
-        if !is_plain_release(alloc, release)? {
-            return Ok(false);
-        }
-    }
-    Ok(true)
+    entry
+        .releases
+        .as_slice()
+        .iter()
+        .all(|release| is_built_release(release))
 }
 
-// Whether each package on a shelf has only what is built so far.
-fn are_plain_packages(alloc: Global, packages: &[ShelfPackage]) -> Result<bool, NoMemory>
-    ensures { IfOk result (λ plain. plain ≡ list_all is_plain_package packages.now) }
+// Whether a shelf has only what is built so far.
+fn is_built_shelf(shelf: &Shelf) -> bool
+    ensures { result ≡ is_built_shelf shelf.now }
 {
-    for package in packages {
-        if !is_plain_package(alloc, package)? {
-            return Ok(false);
-        }
-    }
-    Ok(true)
+    shelf.packages().iter().all(|entry| is_built_package(entry))
 }
 
-/// The shelf that the bytes spell, where it is built.
-pub fn plain_shelf(alloc: Global, bytes: &[u8]) -> Result<Option<ShelfFile>, NoMemory>
-    ensures { IfOk result (λ shelf. shelf ≡ plain_shelf_of bytes.now) }
+// Reads the bytes of a shelf's file.
+fn read_shelf(alloc: Global, bytes: &[u8]) -> Result<Shelf, ShelfEnding>
+    ensures { ReadsBytes bytes.now result }
 {
-    if bytes.len() > MAX_SHELF {
-        return Ok(None);
+    match Shelf::read(alloc, bytes) {
+        Ok(shelf) if is_built_shelf(&shelf) => Ok(shelf),
+        Ok(_) => Err(ShelfEnding::NotBuilt),
+        Err(ShelfFault::At { place, kind }) => Err(ShelfEnding::Unreadable(place, kind)),
+        Err(ShelfFault::Memory) => Err(ShelfEnding::Memory),
     }
-    let shelf = match ShelfFile::read(alloc, bytes) {
-        Ok(shelf) => shelf,
-        Err(ReadFault::At { .. }) => return Ok(None),
-        Err(ReadFault::Memory) => return Err(NoMemory),
+}
+
+/// Gets the shelf.
+pub fn get_shelf<D: Desk>(alloc: Global, name: &str, desk: &mut D) -> Result<Shelf, ShelfEnding>
+    ensures told { IfSome (D.state desk.old).files (λ files. ReadsShelf (map.get files name.now) result) }
+    ensures fault { FaultLeft (faulty_shelf name.now result) (D.state desk.old) (D.state desk.new) }
+    ensures files { (D.state desk.new).files ≡ (D.state desk.old).files }
+{
+    let bytes = match desk.get(name) {
+        Ok(Some(bytes)) => bytes,
+        Ok(None) => return Err(ShelfEnding::Missing),
+        Err(DeskFault::Failed) => return Err(ShelfEnding::Fault),
+        Err(DeskFault::Memory) => return Err(ShelfEnding::Memory),
     };
-    if are_plain_packages(alloc, shelf.packages.as_slice())? && shelf.urls.as_slice().is_empty() {
-        Ok(Some(shelf))
-    } else {
-        Ok(None)
-    }
+    read_shelf(alloc, bytes.as_slice())
 }

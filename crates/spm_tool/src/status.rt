@@ -1,33 +1,45 @@
 // The exit statuses.
 ghost use Rattle.std.specs.Prelude.{◌≡◌};
 ghost use Rattle.spm_tool.specs.Check.{check_status};
-ghost use Rattle.spm_tool.specs.Report.{root_status, shelf_status, status_after, status_of};
+ghost use Rattle.spm_tool.specs.Report.{outcome_status, root_status, shelf_status, status_after, status_of};
 
 use crate::check::CheckEnding;
 use crate::ending::{Ending, RootEnding, ShelfEnding};
 use spm_outside::SinkFault;
+use spm_session::Outcome;
 
-// The status of a root: a refusal is 3.
-pub fn root_status(ending: &RootEnding) -> u8
-    ensures { result ≡ root_status ending.now }
+// The status of an outcome: a refusal is 3.
+fn outcome_status(outcome: &Outcome) -> u8
+    ensures { result ≡ outcome_status outcome.now }
 {
-    match ending {
-        RootEnding::Resolved(_, _) => 0,
-        RootEnding::Refuted(_, _) => 1,
-        RootEnding::Fault(_) => 4,
-        RootEnding::Memory => 6,
+    match outcome {
+        Outcome::Resolved { .. } => 0,
+        Outcome::Refuted { .. } => 1,
+        Outcome::FetchFault(_) => 4,
+        Outcome::Memory => 6,
         _ => 3,
     }
 }
 
+// The status of a root.
+pub fn root_status(ending: &RootEnding) -> u8
+    ensures { result ≡ root_status ending.now }
+{
+    match ending {
+        RootEnding::Resolved(_, _, _) => 0,
+        RootEnding::Fault(_) => 4,
+        RootEnding::Ended(outcome) => outcome_status(outcome),
+    }
+}
+
 // The status of a run without a shelf.
-fn shelf_status(ending: ShelfEnding) -> u8
-    ensures { result ≡ shelf_status ending }
+fn shelf_status(ending: &ShelfEnding) -> u8
+    ensures { result ≡ shelf_status ending.now }
 {
     match ending {
         ShelfEnding::Fault => 4,
         ShelfEnding::Memory => 6,
-        ShelfEnding::Missing | ShelfEnding::NotBuilt => 3,
+        ShelfEnding::Missing | ShelfEnding::Unreadable(_, _) | ShelfEnding::NotBuilt => 3,
     }
 }
 
@@ -36,7 +48,7 @@ pub fn status_of(ending: &Ending) -> u8
     ensures { result ≡ status_of ending.now }
 {
     match ending {
-        Ending::Shelf(shelf) => shelf_status(*shelf),
+        Ending::Shelf(shelf) => shelf_status(shelf),
         Ending::Root(root) => root_status(root),
     }
 }

@@ -2,37 +2,52 @@ ghost use Rattle.std.specs.Prelude.{◌≡◌, IfSome, map as map_list, string_b
 ghost use Rattle.spm_tool.specs.Check.{Still};
 ghost use Rattle.spm_tool.specs.Ending.{IsEnding};
 ghost use Rattle.spm_tool.specs.Left.{FaultLeft, FilesLeft, faulty_file};
-ghost use Rattle.spm_tool.specs.Resolves.{Resolves};
+ghost use Rattle.spm_tool.specs.Report.{IsTellable};
+ghost use Rattle.spm_tool.specs.Resolves.{Resolves, Runs};
 ghost use Rattle.spm_tool.specs.WordsView.{order_view};
 
 use crate::check::{check_file, check_report};
 use crate::ending::Ending;
-use crate::files::get_shelf;
 use crate::report::{refuse_words, report_of, tell};
 use crate::root::run_root;
+use crate::shelf::get_shelf;
 use crate::status::{check_status, status_of};
-use crate::words::{Command, Order};
+use crate::words::{Order, proof_of};
+use pub_term::Cause;
 use spm_outside::{Desk, Gate, Link, Sink};
+use spm_version::NoMemory;
 use std::alloc::Global;
 use std::sync::Wait;
 use std::thread::Threads;
 
 // Does what accepted words ask.
 fn run<D: Desk>(alloc: Global, order: &Order, desk: &mut D) -> Ending
-    ensures told { IfSome (D.state desk.old).files (λ files. IsEnding (order_view order.now) files result) }
+    ensures told { IfSome (D.state desk.old).files
+        (λ files. IsEnding ⟦<Cause as PartialEq>⟧.eq (order_view order.now) files result) }
     ensures fault { FaultLeft (faulty_file (order_view order.now) result) (D.state desk.old) (D.state desk.new) }
     ensures files { FilesLeft (order_view order.now) result (D.state desk.old).files (D.state desk.new).files }
+    ensures tellable { IsTellable result }
 {
     match get_shelf(alloc, order.shelf, desk) {
-        Ok(shelf) => Ending::Root(run_root(alloc, order.root, &shelf, desk)),
+        Ok(shelf) => Ending::Root(run_root(alloc, order, &shelf, desk)),
         Err(ending) => Ending::Shelf(ending),
     }
 }
 
+// Does what accepted words ask, tells it, and gives the exit status.
+fn resolve_order<D: Desk, O: Sink>(alloc: Global, order: &Order, desk: &mut D, out: &mut O) -> u8
+    ensures { Runs ⟦<Cause as PartialEq>⟧.eq (order_view order.now)
+        (D.state desk.old) (D.state desk.new) (O.state out.old) (O.state out.new) result }
+{
+    let ending = run(alloc, order, desk);
+    tell(report_of(alloc, order, &ending), status_of(&ending), out)
+}
+
 /// Resolves what the words ask, and gives the exit status.
 ///
-/// The words are `resolve --shelf FILE ROOT`. The shelf is the registry; the root's folder has a
-/// `Package.json`, a manifest dump, and gets a `Package.resolved`. The report goes to `out`.
+/// The words are `resolve --shelf FILE [--tools-version V] [TRAITS] ROOT`, where TRAITS is `--traits LIST`, `--enable-all-traits` or
+/// `--disable-default-traits`. The shelf is the registry; the root's folder has a `Package.json`, a manifest dump, and gets a
+/// `Package.resolved`, whose pins are kept where they are allowed. The report goes to `out`; where no selection exists it has a derivation.
 ///
 /// Statuses: 0 resolved, 1 no selection, 2 words that aren't accepted, 3 a refusal, 4 a fault of the desk or the
 /// sink, 6 want of memory.
@@ -47,16 +62,14 @@ pub fn resolve<R: Threads + Wait + Sync, D: Desk, L: Link + Send, O: Sink, G: Ga
     out: &mut O,
     _gate: &G,
 ) -> u8
-    ensures run { Resolves (map_list string_bytes words.now)
+    ensures run { Resolves ⟦<Cause as PartialEq>⟧.eq (map_list string_bytes words.now)
         (D.state desk.old) (D.state desk.new) (O.state out.old) (O.state out.new) result }
     ensures links { links.new.items ≡ links.old.items }
 {
-    match Command::read(words) {
-        Some(Command::Resolve(order)) => {
-            let ending = run(alloc, &order, desk);
-            tell(report_of(alloc, &order, &ending), status_of(&ending), out)
-        }
-        _ => refuse_words(out),
+    match Order::read(alloc, words) {
+        Ok(Some(order)) => resolve_order(alloc, &order, desk, out),
+        Ok(None) => refuse_words(out),
+        Err(NoMemory) => 6,
     }
 }
 
@@ -71,15 +84,13 @@ pub fn still<D: Desk, O: Sink>(alloc: Global, words: &[String], desk: &mut D, ou
     ensures run { Still (map_list string_bytes words.now)
         (D.state desk.old) (D.state desk.new) (O.state out.old) (O.state out.new) result }
 {
-    match Command::read(words) {
-        Some(Command::Check(file)) => {
-            let ending = check_file(alloc, file, desk);
-            tell(
-                check_report(alloc, file, &ending),
-                check_status(&ending),
-                out,
-            )
-        }
-        _ => refuse_words(out),
-    }
+    let Some(file) = proof_of(words) else {
+        return refuse_words(out);
+    };
+    let ending = check_file(alloc, file, desk);
+    tell(
+        check_report(alloc, file, &ending),
+        check_status(&ending),
+        out,
+    )
 }

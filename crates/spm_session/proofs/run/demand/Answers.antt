@@ -1,5 +1,5 @@
 use Rattle.spm_session.proofs.run.demand.Goals as goal
-use Rattle.spm_session.proofs.RunLemmas.{comes_more, given_on, needs_what, refused_on, refused_told, runs_to}
+use Rattle.spm_session.proofs.RunLemmas.{comes_more, give_falls, given_on, needs_what, refused_on, refused_told, runs_to}
 
 -- src/run.rt
 pub returns-in-Err-Failed-clause-end : goal.returns-in-Err-Failed-clause-end
@@ -21,3 +21,8 @@ returns-clause-end g c =
 pub returns-clause-told : goal.returns-clause-told
 returns-clause-told g c =
     refused_told (g.L.Link.state c.args.link.now).book c.args.base.now c.args.key c.in-Ok.reply c.args.plain.now c.give.result c.give.ensures.err
+
+pub returns-clause-falls : goal.returns-clause-falls
+returns-clause-falls g c =
+    give_falls (g.L.Link.state c.args.link.now).book c.args.base.now c.args.key c.in-Ok.reply c.args.plain.now c.give.new.plain c.give.result
+    c.requires c.give.ensures.ok

@@ -6,7 +6,7 @@ use Rattle.spm_session.specs.Run.{IsRun}
 use Rattle.spm_session.proofs.run.step.Goals as goal
 use Rattle.pub_plain.specs.Solver.{Solver, Turns}
 use Rattle.pub_trail.specs.Turn.{TooWide}
-use Rattle.spm_session.proofs.RunLemmas.{ends_before, faults_stay, run_turned, runs_to}
+use Rattle.spm_session.proofs.RunLemmas.{ends_before, faults_stay, run_turned, runs_to, turn_falls}
 
 -- src/run.rt
 pub demand-requires : goal.demand-requires
@@ -17,6 +17,11 @@ demand-requires g c =
 pub returns-in-Went-clause-run : goal.returns-in-Went-clause-run
 returns-in-Went-clause-run g c =
     run_turned (g.L.Link.state c.args.link.now).book c.args.base.now c.args.plain.now c.turn.new.self
+    (subst (λ t. Turns t c.args.plain.now c.turn.new.self) c.in-Went.is c.in_ok-turn.ensures.ok)
+
+pub returns-in-Went-clause-falls : goal.returns-in-Went-clause-falls
+returns-in-Went-clause-falls g c =
+    turn_falls (g.L.Link.state c.args.link.now).book c.args.base.now c.args.plain.now c.turn.new.self
     (subst (λ t. Turns t c.args.plain.now c.turn.new.self) c.in-Went.is c.in_ok-turn.ensures.ok)
 
 pub returns-in-Selected-clause-end : goal.returns-in-Selected-clause-end
