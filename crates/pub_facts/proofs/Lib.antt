@@ -13,5 +13,8 @@ pub mod Sets
 pub mod Worlds
 pub mod FirstLaw
 pub mod SecondLaw
+pub mod LeastLemmas
+pub mod PartLemmas
+pub mod FirstOne
 pub mod LoopLemmas
 pub mod Examples

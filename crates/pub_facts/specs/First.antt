@@ -1,6 +1,6 @@
 -- Which valid selection is first: step by step, the least identity that the part so far reaches, at the preferred version that can be had.
 use Rattle.std.specs.Str.{bytes_eq}
-use Rattle.std.specs.Prelude.{◌≡◌, ℕ, List, Bool, true, Contains, Some, None, if◌then◌else◌}
+use Rattle.std.specs.Prelude.{◌≡◌, ℕ, List, Bool, true, false, Contains, Some, None, if◌then◌else◌}
 use Rattle.std.specs.Cmp.Lexicographic.{slice_cmp}
 use Rattle.std.specs.Ordering.{is_le, nat_cmp}
 use Rattle.spm_version.specs.Release.{Parts}
@@ -42,3 +42,17 @@ pub record IsFirst (prefers : Preference) (Extends : Catalogue → Catalogue →
   pub skips : (part : Selection) (identity : List ℕ) (release other : Parts) → IsPart job c selection part → IsNext job c part identity
       → selection identity ≡ Some release → Contains (c.lookups.list identity) other → prefers identity other release ≡ true
       → (wider : Catalogue) → Extends c wider → (rival : Selection) → IsValid job wider rival → Includes rival part → rival identity ≡ Some other → ⊥
+
+-- of two releases of a package at least one is preferred to the other
+abbrev pub TellsApart : Preference → Catalogue → Type 0
+TellsApart prefers c = (identity : List ℕ) (first second : Parts) → Contains (c.lookups.list identity) first → Contains (c.lookups.list identity) second
+    → prefers identity first second ≡ false → prefers identity second first ≡ false → first ≡ second
+
+-- the packages that are selected are among these
+abbrev pub IsAmong : List (List ℕ) → Selection → Type 0
+IsAmong identities selection = (identity : List ℕ) (release : Parts) → selection identity ≡ Some release → Contains identities identity
+
+-- no other release of a package is preferred to the one that is selected
+abbrev pub IsPreferred : Preference → Selection → Type 0
+IsPreferred prefers selection = (identity : List ℕ) (release other : Parts) → selection identity ≡ Some release
+    → prefers identity other release ≡ false

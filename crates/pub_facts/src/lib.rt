@@ -11,7 +11,9 @@
 //! one node are intersected, a term of all choices is dropped, and a fact with an empty set is left out. [`named_by`] answers the
 //! nodes that a load names first, so that the caller can number them.
 //!
-//! Two laws tie the two sides: [`valid_selections_violate_nothing`] and [`unviolated_assignments_are_valid`].
+//! Two laws tie the two sides: [`valid_selections_violate_nothing`] and [`unviolated_assignments_are_valid`]. Two say what "first" means:
+//! there is at most one first selection ([`first_selections_are_one`]), and a valid one that is preferred to all others, as the pins of a
+//! lock file are, is first ([`a_valid_selection_is_settled`]).
 //!
 //! How the proof goes:
 //!
@@ -24,6 +26,7 @@
 //!   that (`proofs/MergeLemmas`).
 //! - For the first law, what is active in a valid selection is met, and so is each fact of its loads (`proofs/FirstLaw`). For the
 //!   second, what is reached is right by induction over the least sets (`proofs/SecondLaw`).
+//! - Two first selections go through the same parts, and neither has more than the last of these (`proofs/PartLemmas`, `FirstOne`).
 #![tactic(auto)]
 
 mod cause;
@@ -36,8 +39,11 @@ mod merging;
 mod numbering;
 mod shared;
 
-pub use cause::{own_subject, release_at};
+pub use cause::{own_subject, release_at, unmet_cause};
 pub use known::{Known, LoadPlace};
-pub use laws::{unviolated_assignments_are_valid, valid_selections_violate_nothing};
-pub use load::{is_declared, is_of};
+pub use laws::{
+    a_valid_selection_is_settled, first_selections_are_one, unviolated_assignments_are_valid,
+    valid_selections_violate_nothing,
+};
+pub use load::{enabled_by, is_declared, is_of};
 pub use numbering::{facts_of, named_by, unusable};

@@ -136,8 +136,8 @@ fn words_clauses(alloc: Global, known: &Known, place: &LoadPlace) -> Result<Item
     Ok(clauses)
 }
 
-// What a trait enables: what its entry says.
-fn enabled_by<'e>(entries: &'e [TraitEntry], name: &TraitName) -> &'e [TraitName]
+/// What a trait enables: what its entry says.
+pub fn enabled_by<'e>(entries: &'e [TraitEntry], name: &TraitName) -> &'e [TraitName]
     ensures { result.now ≡ enabled_by entries.now name.now }
 {
     for entry in entries {

@@ -28,7 +28,7 @@ use Rattle.pub_trail.proofs.TestLemmas.{not_within}
 -- ---- what is decided
 
 -- the first of some numbers is among them
-first_among : (numbers : List ℕ) (k : ℕ) → is_among numbers k ≡ true → is_among numbers (first_or numbers 0) ≡ true
+pub first_among : (numbers : List ℕ) (k : ℕ) → is_among numbers k ≡ true → is_among numbers (first_or numbers 0) ≡ true
 first_among [] k here = absurd (false≢true here)
 first_among (x ∷ xs) k here = or_left (x == x) (is_among xs x) (eq-eqb x x refl)
 
@@ -83,7 +83,7 @@ fixes_more Decided sizes incompats entry before node reason by next decided know
     ]
 
 -- a decided node whose decided choice is one of its own has that choice alone
-fixes : (sizes : List ℕ) (incompats : List (List Term)) (trail : List Assigned) (node : ℕ) → IsTrail sizes incompats trail
+pub fixes : (sizes : List ℕ) (incompats : List (List Term)) (trail : List Assigned) (node : ℕ) → IsTrail sizes incompats trail
     → is_decided trail node ≡ true → chosen trail node < slice_index sizes node → Fixes sizes trail node
 fixes sizes incompats [] node is decided known = absurd (false≢true decided)
 fixes sizes incompats (entry ∷ before) node is decided known =

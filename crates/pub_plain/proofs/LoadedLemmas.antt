@@ -87,7 +87,7 @@ loaded_given P (x ∷ xs) (OfLoad cause ∷ os) terms are here = elim (contains_
 loaded_given P (x ∷ xs) (OfConflict first steps ∷ os) terms are here = loaded_given P xs os terms are here
 
 -- those that loads brought of two lists behind one another
-loaded_append : (P : List Term → Cause → Type 0) (xs ys : List (List Term)) (os ps : List Origin) → AreGiven P xs os
+pub loaded_append : (P : List Term → Cause → Type 0) (xs ys : List (List Term)) (os ps : List Origin) → AreGiven P xs os
     → loaded_facts (xs ++ ys) (os ++ ps) ≡ loaded_facts xs os ++ loaded_facts ys ps
 loaded_append P [] ys [] ps are = refl
 loaded_append P [] ys (o ∷ os) ps are = absurd are
@@ -96,7 +96,7 @@ loaded_append P (x ∷ xs) ys (OfLoad cause ∷ os) ps are = ap (λ all. x ∷ a
 loaded_append P (x ∷ xs) ys (OfConflict first steps ∷ os) ps are = loaded_append P xs ys os ps are
 
 -- all of a load's are brought by loads
-loaded_all : (all : List (Incompat × Cause)) → loaded_facts (map terms_of all) (map OfLoad (map cause_of all)) ≡ map terms_of all
+pub loaded_all : (all : List (Incompat × Cause)) → loaded_facts (map terms_of all) (map OfLoad (map cause_of all)) ≡ map terms_of all
 loaded_all [] = refl
 loaded_all (one ∷ all) = ap (λ others. terms_of one ∷ others) (loaded_all all)
 
@@ -113,7 +113,7 @@ given_learned P xs os terms first [] are = are
 given_learned P xs os terms first (step ∷ steps) are = given_append P xs (terms ∷ []) os (OfConflict first (step ∷ steps) ∷ []) are tt
 
 -- and changes nothing of what loads brought
-loaded_learned : (P : List Term → Cause → Type 0) (xs : List (List Term)) (os : List Origin) (terms : List Term) (first : ℕ) (steps : List Step)
+pub loaded_learned : (P : List Term → Cause → Type 0) (xs : List (List Term)) (os : List Origin) (terms : List Term) (first : ℕ) (steps : List Step)
     → AreGiven P xs os → loaded_facts (learned xs terms steps) (learned_origin os first steps) ≡ loaded_facts xs os
 loaded_learned P xs os terms first [] are = refl
 loaded_learned P xs os terms first (step ∷ steps) are =
@@ -187,7 +187,7 @@ pub record IsOfLoad (job : Job) (answers : Answers) (names : List NodeName) (loa
   pub why : fact.cause ≡ cause
 
 -- terms keep their numbers over more names
-terms_more : (names more : List NodeName) (terms : List Written) → ((term : Written) → Contains terms term → number_in names term.node < length names)
+pub terms_more : (names more : List NodeName) (terms : List Written) → ((term : Written) → Contains terms term → number_in names term.node < length names)
     → map (term_of (number_in (names ++ more))) terms ≡ map (term_of (number_in names)) terms
 terms_more names more [] named = refl
 terms_more names more (term ∷ terms) named =
@@ -310,7 +310,7 @@ conflict_loads job answers state first are (Learns terms steps level) out =
     }
 
 -- names that begin with the root have a first one
-some_names : (names rest : List NodeName) → names ≡ Root ∷ rest → 0 < length names
+pub some_names : (names rest : List NodeName) → names ≡ Root ∷ rest → 0 < length names
 some_names names rest rooted = subst (λ (all : List NodeName). 0 < length all) (sym rooted) (omega arith)
 
 -- each turn does

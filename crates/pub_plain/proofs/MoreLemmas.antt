@@ -33,7 +33,7 @@ use Rattle.pub_plain.proofs.SameReadLemmas.{LacksNothing, listed_same, loading_s
 -- ---- of each name
 
 -- what is so of each name and of the root is so of the name of each number
-each_name : (P : NodeName → Type 0) (names : List NodeName) → All P names → P Root → (number : ℕ) → P (name_at names number)
+pub each_name : (P : NodeName → Type 0) (names : List NodeName) → All P names → P Root → (number : ℕ) → P (name_at names number)
 each_name P names all root number = elim (cases_lt number (length names)) [
   | inl within ↦ all number Root within
   | inr past ↦ subst P (sym (get_or_past names number Root past)) root
@@ -122,7 +122,7 @@ pub record IsFound (test : ℕ → NodeName → Bool) (number : ℕ) (names : Li
   pub passes : test found.0 found.1 ≡ true
 
 -- the least of the names that pass is found among them
-least_found : (test : ℕ → NodeName → Bool) (number : ℕ) (names : List NodeName) (found : ℕ × NodeName) → least_from test number names ≡ Some found
+pub least_found : (test : ℕ → NodeName → Bool) (number : ℕ) (names : List NodeName) (found : ℕ × NodeName) → least_from test number names ≡ Some found
     → IsFound test number names found
 least_found test number [] found is = cc
 least_found test number (name ∷ names) found is =
@@ -160,7 +160,7 @@ numbered_name (first ∷ names) node below = elim (cases_Bool (node_eq first nod
 ]
 
 -- a node that is decided is there
-decided_there : (l : Lookups) (names : List NodeName) (sizes : List ℕ) (trail : List Assigned) (node : ℕ) → All (IsPlaced l names sizes) trail
+pub decided_there : (l : Lookups) (names : List NodeName) (sizes : List ℕ) (trail : List Assigned) (node : ℕ) → All (IsPlaced l names sizes) trail
     → is_decided trail node ≡ true → node < length sizes
 decided_there l names sizes [] node placed is = absurd (false≢true is)
 decided_there l names sizes (entry ∷ before) node placed is =
@@ -227,7 +227,7 @@ needed_owned answers state is found it =
     }
 
 -- and so is the owner of what is next
-next_owned : (answers : Answers) (state : State) → IsSolver answers state → (found : ℕ × NodeName)
+pub next_owned : (answers : Answers) (state : State) → IsSolver answers state → (found : ℕ × NodeName)
     → next_node state.names (loaded_facts state.incompats state.origins) state.trail ≡ Some found → IsOwned answers state.names found
 next_owned answers state is found at =
     let facts = loaded_facts state.incompats state.origins in

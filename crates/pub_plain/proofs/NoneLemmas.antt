@@ -73,7 +73,7 @@ own_fact job c load one =
 -- ---- an assignment by numbers
 
 -- the choice of the node of a number
-abbrev by_number : List NodeName → (NodeName → ℕ) → ℕ → ℕ
+abbrev pub by_number : List NodeName → (NodeName → ℕ) → ℕ → ℕ
 by_number names at number = at (name_at names number)
 
 -- where each of some facts isn't violated, none is
@@ -87,7 +87,7 @@ module _ (job : Job) (answers : Answers) (state : State) (is : IsSolver answers 
     (valid : IsValid job (catalogue_by answers) selection) (at : NodeName → ℕ)
     (shown_by : Shows job (catalogue_by answers) selection (IsNamed state.names) at) where
   -- each number has one of the choices of its node
-  number_below : IsAssignment state.sizes (by_number state.names at)
+  pub number_below : IsAssignment state.sizes (by_number state.names at)
   number_below node known =
       let l = lookups_by answers in
       let long : length state.sizes ≡ length state.names = ap (λ (s : List ℕ). length s) is.sizes ∙ sizes_length l state.names in
@@ -111,7 +111,7 @@ module _ (job : Job) (answers : Answers) (state : State) (is : IsSolver answers 
       ∙ first_law job c selection (IsNamed state.names) at valid shown_by load own.there it.fact own.given (λ term there. it.named term there)
 
   -- so none of the incompatibilities is
-  none_violated : ViolatesNone state.incompats (by_number state.names at)
+  pub none_violated : ViolatesNone state.incompats (by_number state.names at)
   none_violated =
       are.follows (by_number state.names at) number_below
       (all_unviolated (loaded_facts state.incompats state.origins) (by_number state.names at)

@@ -58,7 +58,7 @@ violates-merged assignment term (other ∷ others) below =
     ∙ and_swap (has other.choices (assignment other.node)) (has term.choices (assignment term.node)) (violates assignment others)))
 
 -- merging all terms asks what they all ask
-violates-all_merged : (assignment : ℕ → ℕ) (terms : List Term) → Fits assignment terms
+pub violates-all_merged : (assignment : ℕ → ℕ) (terms : List Term) → Fits assignment terms
     → violates assignment (all_merged terms) ≡ violates assignment terms
 violates-all_merged assignment [] fits = refl
 violates-all_merged assignment (term ∷ terms) fits =
@@ -79,13 +79,13 @@ fits-merged assignment term (other ∷ others) below fits =
     (λ _. (fits.0, fits-merged assignment term others below fits.1)))
 
 -- and so do all of them
-fits-all_merged : (assignment : ℕ → ℕ) (terms : List Term) → Fits assignment terms → Fits assignment (all_merged terms)
+pub fits-all_merged : (assignment : ℕ → ℕ) (terms : List Term) → Fits assignment terms → Fits assignment (all_merged terms)
 fits-all_merged assignment [] fits = tt
 fits-all_merged assignment (term ∷ terms) fits =
     fits-merged assignment term (all_merged terms) fits.0 (fits-all_merged assignment terms fits.1)
 
 -- a term that is dropped has every choice
-violates-parts : (assignment : ℕ → ℕ) (terms : List Term) → Fits assignment terms
+pub violates-parts : (assignment : ℕ → ℕ) (terms : List Term) → Fits assignment terms
     → violates assignment (filter (λ term. not (is_whole term.choices)) terms) ≡ violates assignment terms
 violates-parts assignment [] fits = refl
 violates-parts assignment (term ∷ terms) fits =
@@ -122,12 +122,12 @@ violates-incompat_in assignment written terms fits is =
 -- ---- a fact by numbers
 
 -- the numbers of the nodes have the choices of the nodes, which are some of their sets' sizes
-abbrev AreChosen : (NodeName → ℕ) → (ℕ → ℕ) → (NodeName → ℕ) → List Written → Type 0
+abbrev pub AreChosen : (NodeName → ℕ) → (ℕ → ℕ) → (NodeName → ℕ) → List Written → Type 0
 AreChosen number assignment at terms =
     (term : Written) → Contains terms term → (assignment (number term.node) ≡ at term.node) × (at term.node < term.choices.size)
 
 -- so the terms by numbers fit
-terms_fit : (number : NodeName → ℕ) (assignment : ℕ → ℕ) (at : NodeName → ℕ) (terms : List Written) → AreChosen number assignment at terms
+pub terms_fit : (number : NodeName → ℕ) (assignment : ℕ → ℕ) (at : NodeName → ℕ) (terms : List Written) → AreChosen number assignment at terms
     → Fits assignment (map (term_of number) terms)
 terms_fit number assignment at [] are = tt
 terms_fit number assignment at (term ∷ terms) are =
@@ -137,7 +137,7 @@ terms_fit number assignment at (term ∷ terms) are =
     )
 
 -- and are violated just where the terms are
-terms_violated : (number : NodeName → ℕ) (assignment : ℕ → ℕ) (at : NodeName → ℕ) (terms : List Written) → AreChosen number assignment at terms
+pub terms_violated : (number : NodeName → ℕ) (assignment : ℕ → ℕ) (at : NodeName → ℕ) (terms : List Written) → AreChosen number assignment at terms
     → violates assignment (map (term_of number) terms) ≡ fact.violates at terms
 terms_violated number assignment at [] are = refl
 terms_violated number assignment at (term ∷ terms) are =

@@ -15,7 +15,7 @@ abbrev pub down : ℕ → List ℕ
 down n = map (λ k. suc k) (reverse (numbers_below n))
 
 -- one more comes first
-down-suc : (n : ℕ) → down (suc n) ≡ suc n ∷ down n
+pub down-suc : (n : ℕ) → down (suc n) ≡ suc n ∷ down n
 down-suc n = ap (map (λ k. suc k)) (reverse-append (numbers_below n) (n ∷ []))
 
 -- the same of a number that isn't 0

@@ -15,3 +15,4 @@ pub mod Derivation
 pub mod Writing
 pub mod Ending
 pub mod FactLines
+pub mod Preferred

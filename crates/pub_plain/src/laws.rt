@@ -1,15 +1,17 @@
 //! Laws of the definitions: each function here has one as its contract, and nothing calls them.
 ghost use Rattle.pub_facts.specs.Catalogue.{Job};
 ghost use Rattle.pub_facts.specs.Enabled.{Selection};
+ghost use Rattle.pub_facts.specs.First.{IsFirst};
 ghost use Rattle.pub_facts.specs.Valid.{IsValid};
-ghost use Rattle.pub_plain.specs.Answers.{Answers, AreShort, Carries, catalogue_by, lookups_by};
-ghost use Rattle.pub_plain.specs.Choosing.{Pins};
+ghost use Rattle.pub_plain.specs.Answers.{Answers, AreShort, Carries, answers_of, catalogue_by, lookups_by};
+ghost use Rattle.pub_plain.specs.Choosing.{Pins, pin_of};
 ghost use Rattle.pub_plain.specs.Derivation.{derivation_in, pins_in};
 ghost use Rattle.pub_plain.specs.Ending.{AreFew, IsRunning, steps_left};
 ghost use Rattle.pub_plain.specs.FactLines.{IsFactLine};
 ghost use Rattle.pub_plain.specs.Gives.{IsGiven};
 ghost use Rattle.pub_plain.specs.Invariant.{IsSolver};
 ghost use Rattle.pub_plain.specs.Plain.{opening, plain_after, plain_limits, rules_of};
+ghost use Rattle.pub_plain.specs.Preferred.{AreAscending, IsWider, prefers_by};
 ghost use Rattle.pub_plain.specs.Solver.{Solver, Turns, answers_now, turn_now};
 ghost use Rattle.pub_plain.specs.Stops.{IsAnswered, TurnStops};
 ghost use Rattle.pub_proof.specs.Checked.{checked_of};
@@ -20,8 +22,9 @@ ghost use Rattle.pub_trail.specs.Derived.{IsHistory};
 ghost use Rattle.pub_trail.specs.First.{IsChosen, Preference};
 ghost use Rattle.pub_trail.specs.Invariant.{AreRules, IsState};
 ghost use Rattle.pub_trail.specs.Measure.{Ends, IsLast};
-ghost use Rattle.pub_trail.specs.Turn.{Needs, Refuted, State, Step, Turn, Went, turn_of};
+ghost use Rattle.pub_trail.specs.Turn.{Needs, Refuted, Selected, State, Step, Turn, Went, turn_of};
 ghost use Rattle.pub_trail.specs.declared.turned.Turned.TheVariants as turned;
+ghost use Rattle.spm_key.specs.Catalogue as replies;
 ghost use Rattle.spm_key.specs.declared.key.Key.{Key};
 ghost use Rattle.spm_key.specs.declared.reply.Reply.{Reply};
 ghost use Rattle.spm_version.specs.Release.{Parts};
@@ -113,4 +116,26 @@ pub fn a_refutation_means_none()
     ensures none { (job : Job) (pins : Pins) (answers more : Answers) (n : ℕ) (state : State) (terms : List Term) (first : ℕ) (steps : List Step)
         (selection : Selection) → AreShort answers → AreShort more → Carries answers more → plain_after job pins answers n ≡ Went state
         → turn_of (rules_of job pins answers) state ≡ Refuted terms first steps → IsValid job (catalogue_by more) selection → ⊥ }
+{}
+
+/// A law, with nothing to run: where a solver selects, its pins are the first valid selection: they are valid, and at each step no version
+/// that is preferred to the chosen one lies in a valid selection of any catalogue that says the same of the keys that were given.
+pub fn a_selection_is_first()
+    ensures { (job : Job) (pins : Pins) (answers : Answers) (n : ℕ) (state : State) → AreShort answers → AreAscending answers
+        → plain_after job pins answers n ≡ Went state → turn_of (rules_of job pins answers) state ≡ Selected
+        → IsFirst (prefers_by pins) (IsWider answers) job (catalogue_by answers) (pin_of (pins_in (lookups_by answers) state)) }
+{}
+
+/// A law, with nothing to run: the lists that replies say ascend.
+pub fn said_lists_ascend()
+    ensures { (c : replies.Catalogue) → AreAscending (answers_of c) }
+{}
+
+/// A law, with nothing to run: what is resolved is resolved again with the same pins, over the same replies.
+pub fn resolving_again_keeps_the_pins()
+    ensures { (job : Job) (pins : Pins) (answers : Answers) (n m : ℕ) (state again : State) → AreShort answers → AreAscending answers
+        → plain_after job pins answers n ≡ Went state → turn_of (rules_of job pins answers) state ≡ Selected
+        → plain_after job (pins_in (lookups_by answers) state) answers m ≡ Went again
+        → turn_of (rules_of job (pins_in (lookups_by answers) state) answers) again ≡ Selected
+        → pins_in (lookups_by answers) again ≡ pins_in (lookups_by answers) state }
 {}

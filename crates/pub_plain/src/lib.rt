@@ -17,6 +17,8 @@
 //! changes nothing that was done ([`more_answers_change_nothing`], [`runs_go_on`]), a refutation's derivation is checked by its own
 //! facts ([`a_refutation_is_checked`]), which are those of loads, so that there is no valid selection ([`a_refutation_means_none`]), pins
 //! ascend ([`pins_ascend`]), and a number falls at each turn and each reply that a turn needs, so a resolution ends ([`resolutions_end`]).
+//! A selection is the first valid one ([`a_selection_is_first`], over lists that ascend, as those of replies do: [`said_lists_ascend`]), so
+//! what is resolved again keeps its pins ([`resolving_again_keeps_the_pins`]).
 //!
 //! How the code goes: what was said is kept as `Told`, the state as `Lists`, oldest first (`specs/Kept.antt`), and what is left of each
 //! node is worked out once a turn. A load goes through its keys (`reading`), then names its nodes and makes its facts (`loading`); the
@@ -25,7 +27,10 @@
 //!
 //! How the proof goes: what a solver is at each moment is `IsSolver` (`specs/Invariant.antt`), of what is kept `IsTurning`
 //! (`specs/Turning.antt`). A predicate of what a load comes to holds of each thing that is read, from the last to the first
-//! (`proofs/StopLemmas`), and of a turn by its cases. Worked runs compute (`proofs/Examples`): their counts of turns, what they pin, and
+//! (`proofs/StopLemmas`), and of a turn by its cases. A selection is the first one since its decisions are steps: each is on the least node
+//! that those before it ask, and passes over nothing that is left (`proofs/Decisions`, `StepRuns`, `SkipRuns`); a rival that keeps the
+//! decisions before is an assignment that violates no fact, so no choice that was passed over lies in it (`BestLemmas`,
+//! `FirstSelection`). Worked runs compute (`proofs/Examples`): their counts of turns, what they pin, and
 //! what they ask for first.
 #![tactic(auto)]
 
@@ -47,9 +52,9 @@ mod turning;
 mod writing;
 
 pub use laws::{
-    a_refutation_is_checked, a_refutation_means_none, a_solver_opens_right,
+    a_refutation_is_checked, a_refutation_means_none, a_selection_is_first, a_solver_opens_right,
     a_turn_needs_what_is_not_given, more_answers_change_nothing, pins_ascend, resolutions_end,
-    runs_go_on, the_rules_are_right,
+    resolving_again_keeps_the_pins, runs_go_on, said_lists_ascend, the_rules_are_right,
 };
 pub use plain::Plain;
 pub use preference::{pin_of, preferred};

@@ -136,6 +136,11 @@ impl Plain {
     /// One turn: the first of its cases that applies, as `turn_of` of `pub_trail` has it (PubGrub's `solver.md`, over sets of choices).
     /// Where it needs a reply, passes a limit, selects or refutes, nothing changes, and no turn is counted.
     ///
+    /// Where it selects, the pins are the first valid selection ([`a_selection_is_first`](crate::a_selection_is_first)). Where it refutes, the
+    /// derivation is checked by its own facts, which are those of loads that were done, and no selection is valid
+    /// ([`a_refutation_is_checked`](crate::a_refutation_is_checked), [`a_refutation_means_none`](crate::a_refutation_means_none)). Turns and
+    /// replies come to an end ([`resolutions_end`](crate::resolutions_end)).
+    ///
     /// # Errors
     ///
     /// `NoMemory` alone. Nothing has changed then.

@@ -91,7 +91,7 @@ put_sorted release (other ∷ others) sorted apart = elim (cases_Bool (is_le (re
 ]
 
 -- releases of which no two tie ascend when they are put in order
-ascending_sorted : (releases : List Parts) → IsDistinct (eq_by_cmp release_cmp) releases → IsStrictlySortedBy release_cmp (ascending releases)
+pub ascending_sorted : (releases : List Parts) → IsDistinct (eq_by_cmp release_cmp) releases → IsStrictlySortedBy release_cmp (ascending releases)
 unfolding IsStrictlySortedBy
 ascending_sorted [] apart = tt
 ascending_sorted (release ∷ releases) apart =

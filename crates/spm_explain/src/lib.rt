@@ -30,3 +30,4 @@ mod sentences;
 mod terms;
 
 pub use explaining::explain;
+pub use sentences::sentence;

@@ -110,8 +110,12 @@ fn unversioned_text(
     }
 }
 
-// The sentence of a cause.
-pub(crate) fn sentence(alloc: Global, cause: &Cause) -> Result<String, NoMemory>
+/// The sentence of a cause, as the line of a fact has it.
+///
+/// # Errors
+///
+/// `NoMemory` alone.
+pub fn sentence(alloc: Global, cause: &Cause) -> Result<String, NoMemory>
     ensures { IfOk result (λ written. string_bytes written ≡ sentence cause.now) }
 {
     match cause {

@@ -18,8 +18,12 @@ use Rattle.pub_plain.specs.Solver.{Solver, Turns, answers_now, counted, opened, 
 use Rattle.pub_plain.specs.Stops.{IsRead, TurnStops}
 use Rattle.pub_plain.proofs.DerivationLemmas.{refutation_checked}
 use Rattle.pub_plain.proofs.EndingLemmas.{run_running}
+use Rattle.pub_plain.proofs.FactLineLemmas.{lines_are_facts}
+use Rattle.pub_plain.proofs.FirstSelection.{selection_first}
+use Rattle.pub_plain.proofs.NoneLemmas.{none_valid}
 use Rattle.pub_plain.proofs.PlainLemmas.{carries_more, says_kind}
 use Rattle.pub_plain.proofs.RunLemmas.{run_same, run_solver, run_step}
+use Rattle.pub_plain.proofs.SaidLemmas.{said_ascend}
 use Rattle.pub_plain.proofs.StopLemmas.{turn_stops}
 use Rattle.pub_plain.proofs.StepLemmas.{answers_few, given_falls, turned_falls}
 use Rattle.pub_plain.proofs.TextLemmas.{lengths-choice_texts}
@@ -45,7 +49,7 @@ use Rattle.spm_key.specs.declared.key.Key.{Key}
 use Rattle.spm_key.specs.declared.key.Key.TheVariants as key
 use Rattle.spm_key.specs.declared.reply.Reply.{Reply}
 use Rattle.spm_outside.specs.Book.{Pages, response_of}
-use Rattle.spm_session.specs.Outcome.{CanBeTold, IsExplained, IsNoFault, IsRefusal, Runs, count_of}
+use Rattle.spm_session.specs.Outcome.{CanBeTold, IsCheckedDerivationThatNoneExists, IsExplained, IsFirstValidSelection, IsNoFault, IsRefusal, Runs, count_of}
 use Rattle.spm_session.specs.Run.{FaultsBy, IsFrom, IsReadyEnd, IsRefusedBy, IsRun, refused_by}
 use Rattle.spm_session.specs.declared.outcome.Outcome.{Outcome}
 use Rattle.spm_session.specs.declared.outcome.Outcome.TheVariants as outcome
@@ -218,10 +222,18 @@ is_resolved same book base solver pins turns run is pins_are turns_are = record 
   from = run.from;
   is = record {
     run = runs_to book base solver Selected run is;
-    pins_are = pins_are ∙ ap (λ answers. pins_in (lookups_by answers) solver.state) run.answers;
+    pins_are = are;
     turns_are = turns_are ∙ run.turns;
+    first = subst (IsFirstValidSelection solver.job solver.pins (answers_of run.c)) (sym are)
+        (selection_first solver.job solver.pins (answers_of run.c) it.turns it.state (replies_short run.c) (said_ascend run.c) it.after it.is);
   };
 }
+  where
+    it : Runs solver.job solver.pins (answers_of run.c) Selected
+    it = runs_to book base solver Selected run is
+
+    are : pins ≡ pins_in (lookups_by (answers_of run.c)) solver.state
+    are = pins_are ∙ ap (λ answers. pins_in (lookups_by answers) solver.state) run.answers
 
 -- the derivation of a refutation
 pub is_refuted : (same : Cause → Cause → Bool) (book : Option Pages) (base : Base) (solver : Solver) (found : Derivation) (texts : List (List (List ℕ)))
@@ -236,12 +248,26 @@ is_refuted same book base solver found texts turns terms first steps run is foun
     terms = terms;
     first = first;
     steps = steps;
-    run = runs_to book base solver (Refuted terms first steps) run is;
-    derivation_is = found_is ∙ ap (λ answers. derivation_in same (lookups_by answers) solver.state first steps) run.answers;
+    run = it;
+    derivation_is = are;
     texts_are = texts_are ∙ ap (λ answers. choice_texts (lookups_by answers) solver.state.names) run.answers;
     turns_are = turns_are ∙ run.turns;
+    none = subst (IsCheckedDerivationThatNoneExists solver.job (answers_of run.c) it.state) (sym are) (record {
+      checked = refutation_checked same solver.job solver.pins (answers_of run.c) it.state terms first steps
+          (run_solver solver.job solver.pins (answers_of run.c) it.turns it.state (replies_short run.c) it.after) it.is;
+      facts = lines_are_facts same solver.job solver.pins (answers_of run.c) it.turns it.state terms first steps (replies_short run.c) it.after it.is;
+      none = λ more carries short selection valid.
+          none_valid solver.job solver.pins (answers_of run.c) more it.turns it.state terms first steps selection (replies_short run.c) short carries
+          it.after it.is valid;
+    });
   };
 }
+  where
+    it : Runs solver.job solver.pins (answers_of run.c) (Refuted terms first steps)
+    it = runs_to book base solver (Refuted terms first steps) run is
+
+    are : found ≡ derivation_in same (lookups_by (answers_of run.c)) solver.state first steps
+    are = found_is ∙ ap (λ answers. derivation_in same (lookups_by answers) solver.state first steps) run.answers
 
 -- it can be told
 pub is_told : (same : Cause → Cause → Bool) (book : Option Pages) (base : Base) (solver : Solver) (found : Derivation) (texts : List (List (List ℕ)))

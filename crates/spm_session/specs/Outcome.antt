@@ -1,11 +1,16 @@
 -- What the resolution of a root over a catalogue of replies comes to, as the first of its items that applies: the refusal that its job
 -- holds; the first demanded key whose reply is refused; a limit; a refutation; or the pins. It has no link, cache or memory in it.
-use Rattle.std.specs.Prelude.{◌≡◌, ℕ, min, List, length, map, Bool, Some, Err, IsOk}
+use Rattle.std.specs.Prelude.{◌≡◌, ℕ, min, All, List, length, map, Bool, Some, Err, IsOk}
 use Rattle.pub_facts.specs.Catalogue.{Job}
-use Rattle.pub_plain.specs.Answers.{Answers, answers_of, lookups_by}
-use Rattle.pub_plain.specs.Choosing.{Pins}
+use Rattle.pub_facts.specs.Enabled.{Selection}
+use Rattle.pub_facts.specs.First.{IsFirst}
+use Rattle.pub_facts.specs.Valid.{IsValid}
+use Rattle.pub_plain.specs.Answers.{Answers, AreShort, Carries, answers_of, catalogue_by, lookups_by}
+use Rattle.pub_plain.specs.Choosing.{Pins, pin_of}
 use Rattle.pub_plain.specs.Derivation.{choice_texts, derivation_in, pins_in}
+use Rattle.pub_plain.specs.FactLines.{IsFactLine}
 use Rattle.pub_plain.specs.Plain.{plain_after, rules_of}
+use Rattle.pub_plain.specs.Preferred.{IsWider, prefers_by}
 use Rattle.pub_proof.specs.Checked.{checked_of}
 use Rattle.pub_proof.specs.Checks.{own_facts}
 use Rattle.pub_proof.specs.declared.derivation.Derivation.{Derivation}
@@ -30,11 +35,24 @@ pub record Runs (job : Job) (pins : Pins) (answers : Answers) (last : Turn) : Ty
 abbrev pub count_of : ℕ → ℕ
 count_of turns = min turns 18446744073709551615
 
+-- the first valid selection: it is valid, and at each step no version that is preferred to the chosen one lies in a valid selection of any
+-- catalogue that says the same of the keys that are answered
+abbrev pub IsFirstValidSelection : Job → Pins → Answers → Pins → Type 0
+IsFirstValidSelection job pins answers found = IsFirst (prefers_by pins) (IsWider answers) job (catalogue_by answers) (pin_of found)
+
+-- a checked derivation that none exists: it passes the check by its own facts, each of which is a fact of a load over what is answered, and
+-- no selection is valid in any catalogue that says the same of the keys that are answered
+pub record IsCheckedDerivationThatNoneExists (job : Job) (answers : Answers) (state : State) (found : Derivation) : Type 0 where
+  pub checked : IsOk (checked_of found.nodes found.sizes (own_facts found.lines) found.lines)
+  pub facts : All (IsFactLine job answers state) found.lines
+  pub none : (more : Answers) → Carries answers more → AreShort more → (selection : Selection) → IsValid job (catalogue_by more) selection → ⊥
+
 -- every key that is demanded is answered, and the decisions are a selection
 pub record IsResolved (job : Job) (pins : Pins) (c : Catalogue) (found : Pins) (turns : ℕ) : Type 0 where
   pub run : Runs job pins (answers_of c) Selected
   pub pins_are : found ≡ pins_in (lookups_by (answers_of c)) run.state
   pub turns_are : turns ≡ count_of run.turns
+  pub first : IsFirstValidSelection job pins (answers_of c) found
 
 -- the solver refutes: the derivation, and the texts of its nodes' choices; `same` says which causes are equal
 pub record IsRefuted (same : Cause → Cause → Bool) (job : Job) (pins : Pins) (c : Catalogue) (found : Derivation) (texts : List (List (List ℕ))) (turns : ℕ)
@@ -46,6 +64,7 @@ pub record IsRefuted (same : Cause → Cause → Bool) (job : Job) (pins : Pins)
   pub derivation_is : found ≡ derivation_in same (lookups_by (answers_of c)) run.state first steps
   pub texts_are : texts ≡ choice_texts (lookups_by (answers_of c)) run.state.names
   pub turns_are : turns ≡ count_of run.turns
+  pub none : IsCheckedDerivationThatNoneExists job (answers_of c) run.state found
 
 -- a key is demanded, and its reply is refused for this reason
 pub record IsRefusal (job : Job) (pins : Pins) (c : Catalogue) (asked : Key) (reason : Refusal) : Type 0 where

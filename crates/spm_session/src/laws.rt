@@ -1,5 +1,5 @@
 //! Laws of the definitions: each function here has one as its contract, and nothing calls them.
-ghost use Rattle.std.specs.Prelude.{ℕ, Bool, List};
+ghost use Rattle.std.specs.Prelude.{◌≡◌, ℕ, Bool, List};
 ghost use Rattle.pub_facts.specs.Catalogue.{Job};
 ghost use Rattle.pub_facts.specs.Enabled.{Selection};
 ghost use Rattle.pub_facts.specs.Valid.{IsValid};
@@ -8,7 +8,7 @@ ghost use Rattle.pub_plain.specs.Choosing.{Pins};
 ghost use Rattle.pub_proof.specs.declared.derivation.Derivation.{Derivation};
 ghost use Rattle.pub_term.specs.declared.cause.Cause.{Cause};
 ghost use Rattle.spm_key.specs.Catalogue.{Catalogue};
-ghost use Rattle.spm_session.specs.Outcome.{IsRefuted};
+ghost use Rattle.spm_session.specs.Outcome.{IsRefuted, IsResolved};
 
 /// A law, with nothing to run: where a root is refuted over a catalogue of replies, it has no valid selection, whatever else a registry may
 /// say that says the same of the keys of the catalogue.
@@ -16,4 +16,11 @@ pub fn a_refuted_root_has_no_selection()
     ensures { (same : Cause → Cause → Bool) (job : Job) (pins : Pins) (c : Catalogue) (found : Derivation) (texts : List (List (List ℕ))) (turns : ℕ)
         → IsRefuted same job pins c found texts turns → (more : Answers) → Carries (answers_of c) more → AreShort more
         → (selection : Selection) → IsValid job (catalogue_by more) selection → ⊥ }
+{}
+
+/// A law, with nothing to run: a root that was resolved over a catalogue of replies, resolved again over it with the pins that it got, gets the
+/// same pins.
+pub fn resolving_again_keeps_the_pins()
+    ensures { (job : Job) (pins : Pins) (c : Catalogue) (found again : Pins) (turns turns_again : ℕ) → IsResolved job pins c found turns
+        → IsResolved job found c again turns_again → again ≡ found }
 {}

@@ -7,7 +7,9 @@
 //! The contract that the layers above use is the clause `end` of [`run_alone`]: the outcome is that of the definition over replies of the
 //! link's book, or a fault of the link at a demanded key, or want of memory.
 //!
-//! What a refutation means is a law: the root has no valid selection ([`a_refuted_root_has_no_selection`]).
+//! Pins are the first valid selection, and a derivation is a checked derivation that none exists: these are parts of the outcome's definition,
+//! which the laws of `pub_plain` give. So a refuted root has no valid selection ([`a_refuted_root_has_no_selection`]), and one that was
+//! resolved is resolved again with its pins ([`resolving_again_keeps_the_pins`]).
 //!
 //! How the proof goes: at each moment the solver has done what a plain resolution over the replies so far does (`IsRun` of
 //! `specs/Run.antt`). A turn goes on from there; a reply that is given changes none of the turns that were done (`runs_go_on` of
@@ -22,6 +24,6 @@ mod run;
 mod shared;
 
 pub use job::{RootInput, RootJob};
-pub use laws::a_refuted_root_has_no_selection;
+pub use laws::{a_refuted_root_has_no_selection, resolving_again_keeps_the_pins};
 pub use outcome::Outcome;
-pub use run::run_alone;
+pub use run::{refused, run_alone};

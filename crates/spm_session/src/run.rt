@@ -64,8 +64,8 @@ fn refuted(plain: &Plain) -> Result<Outcome, NoMemory>
     })
 }
 
-// The outcome of a key whose reply is refused.
-fn refused(key: Key, fault: ReplyFault) -> Outcome
+/// The outcome of a key whose reply is refused for this reason.
+pub fn refused(key: Key, fault: ReplyFault) -> Outcome
     ensures { result ≡ refused_by key fault }
 {
     match fault {
