@@ -1,0 +1,8 @@
+use Rattle.std.proofs.Common.{◌≡◌, drop}
+use Rattle.spm_judge.specs.Judged.{first_of}
+use Rattle.spm_judge.specs.Steps.{unlisted_in}
+use Rattle.spm_judge.proofs.broken.unlisted.Given as goal
+
+abbrev pub invariant-loop-pin : goal.invariant-loop-pin
+invariant-loop-pin l =
+    first_of unlisted_in (drop l.pin-index l.pinned) ≡ first_of unlisted_in l.pinned

@@ -1,0 +1,9 @@
+pub mod Held
+pub mod On
+pub mod Judged
+pub mod Over
+pub mod Heard
+pub mod Spread
+pub mod Steps
+pub mod Fetching
+pub mod Sorting
