@@ -4,7 +4,7 @@ use Rattle.std.specs.Str.{bytes_eq}
 use Rattle.pub_term.specs.declared.cause.Cause.{Cause}
 use Rattle.spm_outside.specs.Desk.{DeskState}
 use Rattle.spm_outside.specs.Sink.{SinkState}
-use Rattle.spm_tool.specs.Check.{Still}
+use Rattle.spm_tool.specs.Still.{Still}
 use Rattle.spm_tool.specs.Resolves.{Resolves}
 
 abbrev pub is_resolve : List (List ℕ) → Bool

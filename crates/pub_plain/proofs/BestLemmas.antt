@@ -15,18 +15,17 @@ use Rattle.pub_trail.specs.declared.trail.Reason.{Reason}
 use Rattle.pub_trail.specs.declared.trail.Reason.TheVariants.{Decided, Derived}
 use Rattle.pub_trail.proofs.LieLemmas.{allows-LiesIn, lies_in_trail}
 use Rattle.spm_version.specs.Release.{Parts}
+use Rattle.pub_trail.proofs.FirstLemmas.{first_among, open_chosen}
 use Rattle.pub_plain.specs.Choosing.{Pins}
 use Rattle.pub_plain.specs.Loading.{name_at}
 use Rattle.pub_plain.specs.Preferred.{prefers_by}
 use Rattle.pub_plain.proofs.ApartLemmas.{AreApart}
-use Rattle.pub_plain.proofs.AskedLemmas.{first_among}
 use Rattle.pub_plain.proofs.AsksLemmas.{at_of}
 use Rattle.pub_plain.proofs.Decisions.{Decision, IsTail, chosen_at, package_decision}
 use Rattle.pub_plain.proofs.NoneLemmas.{by_number}
 use Rattle.pub_plain.proofs.SkipRuns.{AreSkips}
 use Rattle.pub_plain.proofs.StateLemmas.{chosen_more, chosen_now, decided_some}
 use Rattle.pub_plain.proofs.TrailLemmas.{AreStepsOf, AreWithin, chosen_all, decision_of, decisions_of}
-use Rattle.pub_plain.proofs.WholeLemmas.{open_chosen}
 
 -- equal decisions with those before them
 head_same : (a b : Decision) (xs ys : List Decision) → (a ∷ xs) ≡ (b ∷ ys) → (a ≡ b) × (xs ≡ ys)

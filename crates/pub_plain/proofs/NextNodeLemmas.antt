@@ -19,6 +19,7 @@ use Rattle.pub_trail.specs.Required.{is_open}
 use Rattle.pub_trail.specs.Trail.{is_decided}
 use Rattle.pub_trail.specs.Turn.{or_some}
 use Rattle.pub_trail.specs.declared.trail.Assigned.{Assigned}
+use Rattle.pub_trail.proofs.FirstLemmas.{open_chosen}
 use Rattle.pub_plain.specs.Choosing.{is_needed, is_ready, is_trait, least_from, next_node, owner_number}
 use Rattle.pub_plain.specs.Loading.{name_at}
 use Rattle.pub_plain.proofs.AsksLemmas.{at_of}
@@ -28,7 +29,6 @@ use Rattle.pub_plain.proofs.LeastLemmas.{NotBelow, none_below, none_passes}
 use Rattle.pub_plain.proofs.MoreLemmas.{least_found}
 use Rattle.pub_plain.proofs.OwnerLemmas.{asked_owner}
 use Rattle.pub_plain.proofs.RulesLemmas.{name_of_number}
-use Rattle.pub_plain.proofs.WholeLemmas.{open_chosen}
 
 -- where one of some passes, some do
 any_of : {X : Type 0} (test : X → Bool) (xs : List X) (x : X) → Contains xs x → test x ≡ true → list_any test xs ≡ true

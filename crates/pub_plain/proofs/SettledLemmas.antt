@@ -19,6 +19,7 @@ use Rattle.pub_trail.specs.declared.trail.Place.{Place}
 use Rattle.pub_trail.proofs.LieLemmas.{formed_at}
 use Rattle.pub_trail.proofs.NewestLemmas.{newest_none}
 use Rattle.pub_trail.proofs.RequiredLemmas.{get_or_same}
+use Rattle.pub_trail.proofs.FirstLemmas.{open_chosen}
 use Rattle.pub_plain.specs.Answers.{Answers, catalogue_by, lookups_by}
 use Rattle.pub_plain.specs.Choosing.{owner_number}
 use Rattle.pub_plain.specs.Invariant.{IsSolver}
@@ -32,7 +33,7 @@ use Rattle.pub_plain.proofs.OwnerLemmas.{choice_some}
 use Rattle.pub_plain.proofs.RulesLemmas.{name_of_number}
 use Rattle.pub_plain.proofs.StateLemmas.{AreMore, brought_there, done_all, place_of, whole_holds}
 use Rattle.pub_plain.proofs.TrailLemmas.{AreWithin, chosen_all, decisions_of, placed_within, steps_of}
-use Rattle.pub_plain.proofs.WholeLemmas.{is_decided_whole, open_chosen}
+use Rattle.pub_plain.proofs.WholeLemmas.{is_decided_whole}
 
 -- the owner of an owner's node is itself
 owner_of : (owner : Owner) → package_of (owner_node owner) ≡ owner

@@ -24,10 +24,10 @@ use Rattle.pub_trail.specs.declared.trail.Reason.{Reason}
 use Rattle.pub_trail.specs.declared.trail.Reason.TheVariants.{Decided, Derived}
 use Rattle.pub_trail.proofs.HeldLemmas.{at_node, holds-Within}
 use Rattle.pub_trail.proofs.LieLemmas.{sized_at}
+use Rattle.pub_trail.proofs.FirstLemmas.{fixes}
 use Rattle.pub_plain.specs.Answers.{Answers, catalogue_by}
 use Rattle.pub_plain.specs.Choosing.{owner_number}
 use Rattle.pub_plain.specs.Loading.{facts_at, load_at, name_at}
-use Rattle.pub_plain.proofs.AskedLemmas.{fixes}
 use Rattle.pub_plain.proofs.DoneLemmas.{IsAmong}
 use Rattle.pub_plain.proofs.TrailLemmas.{AreEach, AreStepsOf, IsStepOf}
 use Rattle.pub_plain.proofs.WholeLemmas.{is_decided_whole}

@@ -18,7 +18,7 @@ use Rattle.pub_trail.specs.Trail.{allows, is_decided, level_of}
 use Rattle.pub_trail.specs.Turn.{Next, State, root_place}
 use Rattle.pub_trail.specs.declared.trail.Assigned.{Assigned}
 use Rattle.pub_trail.specs.declared.trail.Reason.TheVariants.{Decided}
-use Rattle.pub_trail.proofs.FirstLemmas.{first_of_one}
+use Rattle.pub_trail.proofs.FirstLemmas.{first_of_one, open_chosen}
 use Rattle.pub_plain.specs.Answers.{Answers, catalogue_by, lookups_by}
 use Rattle.pub_plain.specs.Choosing.{Pins, first_that, next_at, next_in, next_named, next_node, next_package, owner_number, pin_of, ranked_in}
 use Rattle.pub_plain.specs.Invariant.{IsSolver}
@@ -36,7 +36,6 @@ use Rattle.pub_plain.proofs.RulesLemmas.{name_of_number}
 use Rattle.pub_plain.proofs.SettledLemmas.{choices_made, state_done}
 use Rattle.pub_plain.proofs.StateLemmas.{AreMore, IsDoneAt, IsDoneOf, chosen_now, decided_more, decided_some}
 use Rattle.pub_plain.proofs.TrailLemmas.{IsStepOf, decision_of, decisions_of}
-use Rattle.pub_plain.proofs.WholeLemmas.{open_chosen}
 
 -- ---- what is next
 

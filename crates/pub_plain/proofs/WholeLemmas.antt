@@ -6,7 +6,7 @@ use Rattle.pub_set.specs.Choices.{ChoiceSet, has, is_empty}
 use Rattle.pub_facts.specs.Assigns.{IsAssignment}
 use Rattle.pub_facts.specs.Catalogue.{Catalogue, Job, Lookups, release_at}
 use Rattle.pub_facts.specs.Facts as fact_of
-use Rattle.pub_facts.specs.Facts.{Load, behind, clauses_of, facts_of, is_inside, off, on, outside, owner_node, size_of, subject_terms, trait_node}
+use Rattle.pub_facts.specs.Facts.{is_inside, off, on, outside, size_of, trait_node}
 use Rattle.pub_facts.specs.Numbered.{all_merged, incompat_in, number_in, term_of}
 use Rattle.pub_facts.specs.declared.fact.Written.{Written}
 use Rattle.pub_facts.proofs.FactLemmas.{ClauseShape, alone, on_off, one_off, one_outside}
@@ -16,11 +16,10 @@ use Rattle.pub_term.specs.Term.{violates}
 use Rattle.pub_term.specs.declared.node.NodeName.{NodeName}
 use Rattle.pub_term.specs.declared.node.NodeName.TheVariants.{Package}
 use Rattle.pub_term.specs.declared.term.Term.{Term}
-use Rattle.pub_trail.specs.First.{chosen, first_or, is_asked, is_met}
-use Rattle.pub_trail.specs.Trail.{by_reason, is_decided}
+use Rattle.pub_trail.specs.First.{chosen, is_asked, is_met}
+use Rattle.pub_trail.specs.Trail.{is_decided}
 use Rattle.pub_trail.specs.declared.trail.Assigned.{Assigned}
-use Rattle.pub_trail.specs.declared.trail.Reason.{Reason}
-use Rattle.pub_trail.specs.declared.trail.Reason.TheVariants.{Decided, Derived}
+use Rattle.pub_trail.proofs.FirstLemmas.{open_chosen}
 use Rattle.pub_trail.proofs.TestLemmas.{any_below}
 use Rattle.pub_plain.proofs.AsksLemmas.{at_of, last_is}
 use Rattle.pub_plain.proofs.Decisions.{Asks}
@@ -32,23 +31,6 @@ use Rattle.pub_plain.proofs.NumberedLemmas.{Fits, fits-all_merged, violates-all_
 -- all is decided, and the decided choices violate it
 abbrev pub is_decided_whole : List Assigned → List Term → Bool
 is_decided_whole trail terms = list_all (λ term. is_decided trail term.node && has term.choices (chosen trail term.node)) terms
-
--- what isn't decided has the choice 0
-pub open_chosen : (trail : List Assigned) (node : ℕ) → is_decided trail node ≡ false → chosen trail node ≡ 0
-open_chosen [] node none = refl
-open_chosen (entry ∷ before) node none = by_case entry.reason refl (open_chosen before node)
-  where
-    by_case : (reason : Reason) → entry.reason ≡ reason → (is_decided before node ≡ false → chosen before node ≡ 0) → chosen (entry ∷ before) node ≡ 0
-    by_case (Derived number) same next =
-        ap (λ r. by_reason r (cond (entry.node == node) (first_or entry.choices.members 0) (chosen before node)) (λ n. chosen before node)) same
-        ∙ next (sym (ap (λ r. by_reason r (entry.node == node || is_decided before node) (λ n. is_decided before node)) same) ∙ none)
-    by_case Decided same next =
-        let was : (entry.node == node || is_decided before node) ≡ false
-        = sym (ap (λ r. by_reason r (entry.node == node || is_decided before node) (λ n. is_decided before node)) same) ∙ none in
-        let parts = or_parts (entry.node == node) (is_decided before node) was in
-        ap (λ r. by_reason r (cond (entry.node == node) (first_or entry.choices.members 0) (chosen before node)) (λ n. chosen before node)) same
-        ∙ cond-false (entry.node == node) (first_or entry.choices.members 0) (chosen before node) parts.0
-        ∙ next parts.1
 
 -- where each passes, all do
 all_each : (test : Term → Bool) (terms : List Term) → ((term : Term) → Contains terms term → test term ≡ true) → list_all test terms ≡ true

@@ -9,19 +9,18 @@ ghost use Rattle.pub_plain.specs.Given.{list_given, manifest_given, package_give
 ghost use Rattle.pub_plain.specs.Loading.{read_list, read_manifest, read_need, read_needs, read_under, with_lookup};
 ghost use Rattle.pub_plain.specs.Told.{answers_to, catalogue_of, job_of, load_trouble, load_version, read_load, said_at, stopped};
 ghost use Rattle.pub_trail.specs.Turn.{Loading};
-ghost use Rattle.spm_api.specs.Guess.{is_looked_up};
 ghost use Rattle.spm_key.specs.declared.key.Key.TheVariants.{Identifiers};
 
 use crate::told::{GivenManifest, Told};
 use pub_facts::{LoadPlace, is_declared, is_of, own_subject, release_at};
 use pub_term::{Cause, Subject};
 use pub_trail::Wide;
-use spm_api::Said;
+use spm_api::{Said, is_looked_up};
 use spm_ident::Identity;
 use spm_key::Key;
 use spm_manifest::{Manifest, Need, Target};
 use spm_trait::TraitName;
-use spm_version::{Items, NoMemory, Release, Requirement, Text, ToolsVersion};
+use spm_version::{Items, NoMemory, Release, Text, ToolsVersion};
 use std::alloc::Global;
 
 /// Why a load can't be done yet, or never.
@@ -99,16 +98,6 @@ fn stop_at_url(alloc: Global, told: &Told, url: &Text) -> Result<Option<Stop>, N
         None => Ok(Some(Stop::Lacks(Key::Identifiers(url.copy(alloc)?)))),
         Some(None) => Ok(None),
         Some(Some(identity)) => stop_at_list(alloc, told, identity),
-    }
-}
-
-// Whether a registry is asked for the versions of what is required.
-fn is_looked_up(requirement: &Requirement) -> bool
-    ensures { result ≡ is_looked_up requirement.now }
-{
-    match requirement {
-        Requirement::Exact(_) | Requirement::Range(_, _) => true,
-        Requirement::Branch(_) | Requirement::Revision(_) | Requirement::Path => false,
     }
 }
 

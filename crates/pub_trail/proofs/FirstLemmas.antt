@@ -3,17 +3,18 @@ use Rattle.std.proofs.Common.{◌≡◌, ◌≢◌, ℕ, ◌<◌, ◌==◌, Bool
 use Rattle.std.specs.List.{list_all, list_any}
 use Rattle.std.proofs.lemmas.Bool.{and_cases, and_from, and_parts, cases_Bool, cases_eq, cond-false, cond-true, false≢true, false_from_ne_true, or_cases, or_left, or_parts, or_right, true_from_ne_false}
 use Rattle.pub_set.specs.Choices.{ChoiceSet, has, is_among}
+use Rattle.pub_set.proofs.SetLemmas.{has_below}
 use Rattle.pub_term.specs.Term.{AreNodesAscending, set_at, violates}
 use Rattle.pub_term.specs.declared.term.Term.{Term}
 use Rattle.pub_term.proofs.AboveLemmas.{AreNodesAscending-tail, set_at-head, set_at-tail}
-use Rattle.pub_trail.specs.First.{AreBound, IsFirstChoice, IsShaped, Preference, chosen, first_or, is_asked, is_met}
+use Rattle.pub_trail.specs.First.{IsFirstChoice, IsShaped, Preference, chosen, first_or, is_asked, is_met}
 use Rattle.pub_trail.specs.Invariant.{Agrees, AreFormed, IsAssignment, IsFormed, IsReason, IsTrail, ViolatesNone, Within}
 use Rattle.pub_trail.specs.Trail.{allows, by_reason, holds, is_decided, is_held}
 use Rattle.pub_trail.specs.declared.trail.Assigned.{Assigned}
 use Rattle.pub_trail.specs.declared.trail.Reason.{Reason}
 use Rattle.pub_trail.specs.declared.trail.Reason.TheVariants.{Decided, Derived}
 use Rattle.pub_trail.proofs.HeldLemmas.{Within-held, at_node, each_node, holds-Within, term_of}
-use Rattle.pub_trail.proofs.LieLemmas.{allows-LiesIn, lies_in_trail}
+use Rattle.pub_trail.proofs.LieLemmas.{allows-LiesIn, lies_in_trail, sized_at}
 use Rattle.pub_trail.proofs.NewestLemmas.{almost_from, behind_differs}
 use Rattle.pub_trail.specs.Turn.{almost}
 use Rattle.pub_trail.proofs.TestLemmas.{not_within}
@@ -40,28 +41,33 @@ pub first_of_one : (numbers : List ℕ) (choice : ℕ) → is_among numbers choi
 first_of_one [] choice here each = absurd (false≢true here)
 first_of_one (x ∷ xs) choice here each = each x (or_left (x == x) (is_among xs x) (eq-eqb x x refl))
 
--- on a decided node, what is allowed is the decided choice
-abbrev Fixes : List ℕ → List Assigned → ℕ → Type 0
+-- the first of some numbers is among them
+pub first_among : (numbers : List ℕ) (k : ℕ) → is_among numbers k ≡ true → is_among numbers (first_or numbers 0) ≡ true
+first_among [] k here = absurd (false≢true here)
+first_among (x ∷ xs) k here = or_left (x == x) (is_among xs x) (eq-eqb x x refl)
+
 -- only the decided choice is left
+abbrev pub Fixes : List ℕ → List Assigned → ℕ → Type 0
 Fixes sizes trail node = (choice : ℕ) → choice < slice_index sizes node → allows trail node choice ≡ true → choice ≡ chosen trail node
 
--- an assignment allows its own choices alone
+-- an assignment on the node allows its own choices alone
 head_allows : (same keeps rest : Bool) → same ≡ true → ((not same || keeps) && rest) ≡ true → keeps ≡ true
 head_allows true true rest is all = refl
 head_allows true false rest is all = absurd (false≢true all)
 head_allows false keeps rest is all = absurd (false≢true is)
 
--- one more assignment leaves the decided choice alone
+-- one more assignment leaves a decided choice that is one of the node's alone
 fixes_more : (reason : Reason) (sizes : List ℕ) (incompats : List (List Term)) (entry : Assigned) (before : List Assigned) (node : ℕ)
     → entry.reason ≡ reason → IsReason reason sizes incompats before entry
-    → ((k : ℕ) → has entry.choices k ≡ true → k < slice_index sizes entry.node)
-    → (is_decided before node ≡ true → Fixes sizes before node)
-    → is_decided (entry ∷ before) node ≡ true → Fixes sizes (entry ∷ before) node
-fixes_more (Derived number) sizes incompats entry before node reason by bound next decided choice below allowed =
-    next (sym (ap (λ r. by_reason r (entry.node == node || is_decided before node) (λ n. is_decided before node)) reason) ∙ decided) choice below
-    (allows-before entry before node choice allowed)
-    ∙ sym (ap (λ r. by_reason r (cond (entry.node == node) (first_or entry.choices.members 0) (chosen before node)) (λ n. chosen before node)) reason)
-fixes_more Decided sizes incompats entry before node reason by bound next decided choice below allowed =
+    → (is_decided before node ≡ true → chosen before node < slice_index sizes node → Fixes sizes before node)
+    → is_decided (entry ∷ before) node ≡ true → chosen (entry ∷ before) node < slice_index sizes node → Fixes sizes (entry ∷ before) node
+fixes_more (Derived number) sizes incompats entry before node reason by next decided known choice below allowed =
+    let is : chosen (entry ∷ before) node ≡ chosen before node
+    = ap (λ r. by_reason r (cond (entry.node == node) (first_or entry.choices.members 0) (chosen before node)) (λ n. chosen before node)) reason in
+    next (sym (ap (λ r. by_reason r (entry.node == node || is_decided before node) (λ n. is_decided before node)) reason) ∙ decided)
+    (subst (λ k. k < slice_index sizes node) is known) choice below (allows-before entry before node choice allowed)
+    ∙ sym is
+fixes_more Decided sizes incompats entry before node reason by next decided known choice below allowed =
     let was : (entry.node == node || is_decided before node) ≡ true
     = sym (ap (λ r. by_reason r (entry.node == node || is_decided before node) (λ n. is_decided before node)) reason) ∙ decided in
     let is : chosen (entry ∷ before) node ≡ cond (entry.node == node) (first_or entry.choices.members 0) (chosen before node)
@@ -71,32 +77,41 @@ fixes_more Decided sizes incompats entry before node reason by bound next decide
           (let e : entry.node ≡ node = eqb-true entry.node node same in
           let here : has entry.choices choice ≡ true
           = head_allows (entry.node == node) (has entry.choices choice) (allows before node choice) same allowed in
-          let only : (k : ℕ) → is_among entry.choices.members k ≡ true → k ≡ by.choice
-          = λ k among. eqb-true k by.choice (sym (by.choices k (bound k among)) ∙ among) in
-          let own : has entry.choices by.choice ≡ true
-          = by.choices by.choice (subst (λ c. c < slice_index sizes entry.node) (eqb-true by.left.choice by.choice by.left.passes) by.left.below)
-          ∙ eq-eqb by.choice by.choice refl in
-          let first : first_or entry.choices.members 0 ≡ by.choice = first_of_one entry.choices.members by.choice own only in
-          only choice here ∙ sym first ∙ sym (cond-true (entry.node == node) (first_or entry.choices.members 0) (chosen before node) same) ∙ sym is)
+          let first : chosen (entry ∷ before) node ≡ first_or entry.choices.members 0
+          = is ∙ cond-true (entry.node == node) (first_or entry.choices.members 0) (chosen before node) same in
+          let only : (k : ℕ) → k < slice_index sizes node → has entry.choices k ≡ true → k ≡ by.choice
+          = λ k within among. eqb-true k by.choice (sym (by.choices k (subst (λ n. k < slice_index sizes n) (sym e) within)) ∙ among) in
+          only choice below here
+          ∙ sym (only (first_or entry.choices.members 0) (subst (λ k. k < slice_index sizes node) first known)
+          (first_among entry.choices.members choice here))
+          ∙ sym first)
       | inr other ↦
           (let earlier : is_decided before node ≡ true
           = elim (or_cases (entry.node == node) (is_decided before node) was) [
             | inl same ↦ absurd (false≢true (sym other ∙ same))
             | inr behind ↦ behind
           ] in
-          next earlier choice below (allows-before entry before node choice allowed)
-          ∙ sym (cond-false (entry.node == node) (first_or entry.choices.members 0) (chosen before node) other) ∙ sym is)
+          let rest : chosen (entry ∷ before) node ≡ chosen before node
+          = is ∙ cond-false (entry.node == node) (first_or entry.choices.members 0) (chosen before node) other in
+          next earlier (subst (λ k. k < slice_index sizes node) rest known) choice below (allows-before entry before node choice allowed) ∙ sym rest)
     ]
 
--- a decided node has its decided choice alone
-pub fixes : (sizes : List ℕ) (incompats : List (List Term)) (trail : List Assigned) (node : ℕ) → IsTrail sizes incompats trail → AreBound sizes trail
-    → is_decided trail node ≡ true → Fixes sizes trail node
-fixes sizes incompats [] node is bound decided = absurd (false≢true decided)
-fixes sizes incompats (entry ∷ before) node is bound decided =
-    fixes_more entry.reason sizes incompats entry before node refl is.0 bound.0 (fixes sizes incompats before node is.1 bound.1) decided
+-- a decided node whose decided choice is one of its own has that choice alone
+pub fixes : (sizes : List ℕ) (incompats : List (List Term)) (trail : List Assigned) (node : ℕ) → IsTrail sizes incompats trail
+    → is_decided trail node ≡ true → chosen trail node < slice_index sizes node → Fixes sizes trail node
+fixes sizes incompats [] node is decided known = absurd (false≢true decided)
+fixes sizes incompats (entry ∷ before) node is decided known =
+    fixes_more entry.reason sizes incompats entry before node refl is.0 (fixes sizes incompats before node is.1) decided known
+
+-- what a set of a formed fact has is a choice of its node
+known_of : (sizes : List ℕ) (fact : List Term) (node : ℕ) (set : ChoiceSet) (choice : ℕ) → IsFormed sizes fact → set_at fact node ≡ Some set
+    → has set choice ≡ true → choice < slice_index sizes node
+known_of sizes fact node set choice formed at had =
+    let sized = sized_at sizes fact node set formed.sized at in
+    subst (λ size. choice < size) sized.1 (has_below set choice sized.2 had)
 
 -- an undecided node counts as none or off
-open_chosen : (trail : List Assigned) (node : ℕ) → is_decided trail node ≡ false → chosen trail node ≡ 0
+pub open_chosen : (trail : List Assigned) (node : ℕ) → is_decided trail node ≡ false → chosen trail node ≡ 0
 open_chosen [] node none = refl
 open_chosen (entry ∷ before) node none = by_case entry.reason refl (open_chosen before node)
   where
@@ -140,9 +155,9 @@ any_at test (term ∷ terms) node set at passes =
 
 -- the decided choices violate no fact, where no fact holds and each node that a fact asks is decided
 pub chosen_violates_none : (sizes : List ℕ) (incompats : List (List Term)) (trail : List Assigned) (fact : List Term)
-    → IsTrail sizes incompats trail → AreBound sizes trail → IsFormed sizes fact → IsShaped fact → holds sizes trail fact ≡ false
+    → IsTrail sizes incompats trail → IsFormed sizes fact → IsShaped fact → holds sizes trail fact ≡ false
     → ((node : ℕ) → is_asked trail node fact ≡ true → is_decided trail node ≡ true) → violates (chosen trail) fact ≡ false
-chosen_violates_none sizes incompats trail fact is bound formed shaped open_fact all_decided =
+chosen_violates_none sizes incompats trail fact is formed shaped open_fact all_decided =
     false_from_ne_true (violates (chosen trail) fact) (λ violated. go violated (list_all (λ (t : Term). is_decided trail t.node) fact) refl)
   where
     has_chosen : violates (chosen trail) fact ≡ true → (node : ℕ) (set : ChoiceSet) → set_at fact node ≡ Some set → has set (chosen trail node) ≡ true
@@ -152,7 +167,9 @@ chosen_violates_none sizes incompats trail fact is bound formed shaped open_fact
     go violated true all =
         false≢true (sym open_fact ∙ holds-Within sizes trail fact formed.incompat.ascending
         (λ node set at choice below allowed.
-        ap (has set) (fixes sizes incompats trail node is bound (at_node (λ t. is_decided trail t.node) fact node set all at) choice below allowed)
+        ap (has set)
+        (fixes sizes incompats trail node is (at_node (λ t. is_decided trail t.node) fact node set all at)
+        (known_of sizes fact node set (chosen trail node) formed at (has_chosen violated node set at)) choice below allowed)
         ∙ has_chosen violated node set at))
     go violated false some =
         let place = some_fails (λ t. is_decided trail t.node) fact formed.incompat.ascending some in
@@ -181,9 +198,9 @@ chosen_violates_none sizes incompats trail fact is bound formed shaped open_fact
 
 -- the other terms of a fact that asks a node are held
 asked_others : (sizes : List ℕ) (incompats : List (List Term)) (trail : List Assigned) (fact : List Term) (node other : ℕ) (its : ChoiceSet)
-    → IsTrail sizes incompats trail → AreBound sizes trail → is_asked trail node fact ≡ true → other ≢ node → set_at fact other ≡ Some its
+    → IsTrail sizes incompats trail → IsFormed sizes fact → is_asked trail node fact ≡ true → other ≢ node → set_at fact other ≡ Some its
     → Within sizes trail other its
-asked_others sizes incompats trail fact node other its is bound asked differs at =
+asked_others sizes incompats trail fact node other its is formed asked differs at =
     let parts = and_parts (list_any (λ t. t.node == node && has t.choices 0) fact) (list_all (is_met trail node) fact) asked in
     let met = at_node (is_met trail node) fact other its parts.1 at in
     let both : (is_decided trail other && has its (chosen trail other)) ≡ true
@@ -192,18 +209,19 @@ asked_others sizes incompats trail fact node other its is bound asked differs at
       | inr here ↦ here
     ] in
     let here = and_parts (is_decided trail other) (has its (chosen trail other)) both in
-    λ choice below allowed. ap (has its) (fixes sizes incompats trail other is bound here.0 choice below allowed) ∙ here.1
+    let known = known_of sizes fact other its (chosen trail other) formed at here.1 in
+    λ choice below allowed. ap (has its) (fixes sizes incompats trail other is here.0 known choice below allowed) ∙ here.1
 
--- where a fact that asks a node neither holds nor is almost satisfied, no choice that is left for the node is in its set: so none is none or off
+-- where a fact that asks a node neither holds nor is almost satisfied, no choice that is left for the node is in its set
 pub asked_outside : (sizes : List ℕ) (incompats : List (List Term)) (trail : List Assigned) (fact : List Term) (node : ℕ) (set : ChoiceSet)
-    → IsTrail sizes incompats trail → AreBound sizes trail → IsFormed sizes fact → is_asked trail node fact ≡ true → set_at fact node ≡ Some set
+    → IsTrail sizes incompats trail → IsFormed sizes fact → is_asked trail node fact ≡ true → set_at fact node ≡ Some set
     → holds sizes trail fact ≡ false → almost sizes trail fact ≡ None
     → (choice : ℕ) → choice < slice_index sizes node → allows trail node choice ≡ true → has set choice ≡ false
-asked_outside sizes incompats trail fact node set is bound formed asked at open_fact idle choice below allowed =
+asked_outside sizes incompats trail fact node set is formed asked at open_fact idle choice below allowed =
     false_from_ne_true (has set choice) (λ here. go here (is_held sizes trail (term_of node set)) refl)
   where
     others : (other : ℕ) (its : ChoiceSet) → other ≢ node → set_at fact other ≡ Some its → Within sizes trail other its
-    others other its differs at_other = asked_others sizes incompats trail fact node other its is bound asked differs at_other
+    others other its differs at_other = asked_others sizes incompats trail fact node other its is formed asked differs at_other
 
     go : has set choice ≡ true → (held : Bool) → is_held sizes trail (term_of node set) ≡ held → ⊥
     go here true held =

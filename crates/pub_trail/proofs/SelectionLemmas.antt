@@ -229,7 +229,7 @@ selection_is prefers facts rules state is history was firsts settled at = record
       let formed : IsFormed state.sizes fact = subst (IsFormed state.sizes) same (history.are.formed place.0 place.1) in
       let open_fact : holds state.sizes state.trail fact ≡ false
       = ap (holds state.sizes state.trail) (sym same) ∙ newest_none (holds state.sizes state.trail) 0 state.incompats settled.none_holds place.0 place.1 in
-      chosen_violates_none state.sizes state.incompats state.trail fact is.stands was.bound formed (was.shaped fact there) open_fact
+      chosen_violates_none state.sizes state.incompats state.trail fact is.stands formed (was.shaped fact there) open_fact
       (λ node asked. firsts.all settled at fact there node asked);
   choices = was.choices;
   first = best prefers state.sizes state.incompats facts state.trail is.formed is.stands is.follows was.choices;

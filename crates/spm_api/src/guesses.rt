@@ -25,8 +25,9 @@ use std::alloc::Global;
 /// The status of a reply whose body is what was asked for (RFC 9110, section 15.3.1).
 const STATUS_OK: u16 = 200;
 
-// Whether a registry is asked for the versions of what is required.
-fn is_looked_up(requirement: &Requirement) -> bool
+/// Whether a registry is asked for the versions of what is required: for a version or a range of versions (SE-0292), and not for a
+/// branch, a revision or a path.
+pub fn is_looked_up(requirement: &Requirement) -> bool
     ensures { result ≡ is_looked_up requirement.now }
 {
     match requirement {

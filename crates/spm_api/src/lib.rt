@@ -39,7 +39,7 @@ mod texts;
 pub use base::{Base, BaseFault};
 pub use bodies::{BodyFault, read_identifiers, read_list, read_problem, read_release};
 pub use endpoint::{fetch, reply_of, request_of};
-pub use guesses::{guess, guess_root};
+pub use guesses::{guess, guess_root, is_looked_up};
 pub use laws::{
     a_catalogue_says_what_it_answers, a_lookup_is_one_identity, a_reply_makes_one_guess,
     a_response_is_one_reply, a_sorted_list_is_ascending, every_response_is_a_reply,

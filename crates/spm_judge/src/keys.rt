@@ -3,7 +3,6 @@ ghost use Rattle.std.specs.Prelude.{◌≡◌, ◌++◌, [], filter_map, flat_ma
 ghost use Rattle.std.specs.List.{cons_option, filter};
 ghost use Rattle.std.specs.Option.{option_copied};
 ghost use Rattle.pub_facts.specs.Facts.{is_of};
-ghost use Rattle.spm_api.specs.Guess.{is_looked_up};
 ghost use Rattle.spm_judge.specs.Heard.{contents_in};
 ghost use Rattle.spm_judge.specs.Judged.{list_keys, lookup_key, manifest_keys};
 ghost use Rattle.spm_judge.specs.Steps.{keys_in, lookups_in};
@@ -11,23 +10,14 @@ ghost use Rattle.spm_judge.specs.Steps.{keys_in, lookups_in};
 use crate::pinned::{Pinned, contents_at};
 use pub_facts::is_of;
 use pub_term::NodeName;
+use spm_api::is_looked_up;
 use spm_ident::Identity;
 use spm_key::Key;
 use spm_manifest::{Manifest, Need, Target};
 use spm_trait::TraitName;
-use spm_version::{Items, NoMemory, Release, Requirement};
+use spm_version::{Items, NoMemory, Release};
 use std::alloc::Global;
 use std::collections::BTreeSet;
-
-// Whether a registry is asked for what is required.
-fn is_looked_up(requirement: &Requirement) -> bool
-    ensures { result ≡ is_looked_up requirement.now }
-{
-    match requirement {
-        Requirement::Exact(_) | Requirement::Range(_, _) => true,
-        Requirement::Branch(_) | Requirement::Revision(_) | Requirement::Path => false,
-    }
-}
 
 // Puts the look-up of a need behind the keys, where it has one.
 fn push_lookup(alloc: Global, keys: &mut Items<Key>, need: &Need) -> Result<(), NoMemory>

@@ -14,8 +14,7 @@ use Rattle.spm_outside.specs.Desk.{DeskState}
 use Rattle.spm_outside.specs.Sink.{SinkState}
 use Rattle.spm_tool.specs.Left.{FaultLeft}
 use Rattle.spm_tool.specs.Report.{line_end, unreadable_text}
-use Rattle.spm_tool.specs.Resolves.{RefusesWords, Tells}
-use Rattle.spm_tool.specs.Words.{proof_of}
+use Rattle.spm_tool.specs.Resolves.{Tells}
 use Rattle.spm_tool.specs.declared.check.CheckEnding.{CheckEnding}
 use Rattle.spm_tool.specs.declared.check.CheckEnding.TheVariants.{Missing, Unreadable, Fault, Holds, Fails, Memory}
 
@@ -79,10 +78,3 @@ pub record ChecksFile (file : List ℕ) (before after : DeskState) (sink_before 
   pub fault : FaultLeft (faulty_check file ending) before after
   pub files : after.files ≡ before.files
   pub report : Tells (check_report file ending) (check_status ending) sink_before sink_after status
-
-abbrev pub StillBy : Option (List ℕ) → DeskState → DeskState → SinkState → SinkState → ℕ → Type 0
-StillBy (Some file) before after sink_before sink_after status = ChecksFile file before after sink_before sink_after status
-StillBy None before after sink_before sink_after status = RefusesWords before after sink_before sink_after status
-
-abbrev pub Still : List (List ℕ) → DeskState → DeskState → SinkState → SinkState → ℕ → Type 0
-Still given before after sink_before sink_after status = StillBy (proof_of given) before after sink_before sink_after status

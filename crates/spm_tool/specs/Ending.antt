@@ -65,6 +65,15 @@ abbrev pub kept_in : Option (List ℕ) → Result (List (List ℕ × Parts)) Roo
 kept_in None = Ok []
 kept_in (Some bytes) = read_pins (resolved_of bytes)
 
+abbrev pub some_pins : Result (List (List ℕ × Parts)) RootEnding → Result (Option (List (List ℕ × Parts))) RootEnding
+some_pins (Ok pins) = Ok (Some pins)
+some_pins (Err refusal) = Err refusal
+
+-- the pins of the lock file, if there is one, or the refusal
+abbrev pub locked_in : Option (List ℕ) → Result (Option (List (List ℕ × Parts))) RootEnding
+locked_in None = Ok None
+locked_in (Some bytes) = some_pins (read_pins (resolved_of bytes))
+
 -- ---- the root's job
 
 -- the traits that are declared beside `default`, in the manifest's order

@@ -8,3 +8,5 @@ pub mod Steps
 pub mod Report
 pub mod Resolves
 pub mod Check
+pub mod Judge
+pub mod Still

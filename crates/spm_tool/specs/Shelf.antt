@@ -56,6 +56,21 @@ ReadsShelf content (Err Fault) = Unit {0}
 ReadsShelf None found = found ≡ Err Missing
 ReadsShelf (Some bytes) found = ReadsBytes bytes found
 
+-- the same whatever is on the shelf
+abbrev pub ReadsAnyBytes : List ℕ → Result ShelfFile ShelfEnding → Type 0
+ReadsAnyBytes bytes (Ok shelf) = Spells bytes shelf
+ReadsAnyBytes bytes (Err (Unreadable place kind)) = shelf_of bytes ≡ Err (record { place = place; kind = kind })
+ReadsAnyBytes bytes (Err NotBuilt) = ⊥
+ReadsAnyBytes bytes (Err Missing) = ⊥
+ReadsAnyBytes bytes (Err Fault) = ⊥
+ReadsAnyBytes bytes (Err Memory) = Unit {0}
+
+abbrev pub ReadsAny : Option (List ℕ) → Result ShelfFile ShelfEnding → Type 0
+ReadsAny content (Err Memory) = Unit {0}
+ReadsAny content (Err Fault) = Unit {0}
+ReadsAny None found = found ≡ Err Missing
+ReadsAny (Some bytes) found = ReadsAnyBytes bytes found
+
 -- ---- a root over the shelf
 
 -- the fixed replies of a registry that has the shelf, at a plain base

@@ -1,5 +1,5 @@
 -- The forms of words that are built so far, each in just that order: `resolve --shelf FILE [--tools-version V] [TRAITS] ROOT`, where TRAITS
--- is `--traits LIST`, `--enable-all-traits` or `--disable-default-traits`; and `check --proof FILE`.
+-- is `--traits LIST`, `--enable-all-traits` or `--disable-default-traits`; `check --proof FILE`; and `judge --shelf FILE [--tools-version V] ROOT`.
 use Rattle.std.specs.Prelude.{ℕ, ◌==◌, ◌&&◌, List, [], ◌∷◌, ◌++◌, Bool, false, not, codes, Option, Some, None, Result, Ok, Err, option_and_then, option_map, if◌then◌else◌}
 use Rattle.std.specs.List.{list_any, slice_split}
 use Rattle.std.specs.Str.{bytes_eq}
@@ -10,7 +10,7 @@ use Rattle.spm_version.specs.declared.tools_version.ToolsVersion.{ToolsVersion}
 use Rattle.spm_tool.specs.declared.words.TraitWords.{TraitWords}
 use Rattle.spm_tool.specs.declared.words.TraitWords.TheVariants as asked
 
--- what `resolve` is asked: the shelf's file, the version of the tools that are running, the traits of the root, and its folder
+-- what `resolve` or `judge` is asked: the shelf's file, the version of the tools that are running, the traits of the root, and its folder
 pub record Order : Type 0 where
   pub shelf : List ℕ
   pub tools : ToolsVersion
@@ -91,6 +91,29 @@ abbrev pub proof_of : List (List ℕ) → Option (List ℕ)
 proof_of (command ∷ option ∷ file ∷ []) =
     if bytes_eq command (codes "check") && bytes_eq option (codes "--proof") && is_value file then Some file else None
 proof_of words = None
+
+-- ---- judge
+
+-- the root, with the traits that are on by default
+abbrev pub judge_root : List ℕ → ToolsVersion → List (List ℕ) → Option Order
+judge_root shelf tools (root ∷ []) = order_with shelf tools (Some asked.ByDefault) root
+judge_root shelf tools words = None
+
+abbrev pub judge_after : List ℕ → List (List ℕ) → Option ToolsVersion → Option Order
+judge_after shelf words (Some tools) = judge_root shelf tools words
+judge_after shelf words None = None
+
+-- the words behind the shelf's file
+abbrev pub judge_with : List ℕ → List (List ℕ) → Option Order
+judge_with shelf (option ∷ value ∷ words) =
+    if bytes_eq option (codes "--tools-version") then judge_after shelf words (tools_of value) else None
+judge_with shelf words = judge_root shelf running words
+
+-- what the words ask of `judge`, if they are of its form
+abbrev pub judge_of : List (List ℕ) → Option Order
+judge_of (command ∷ option ∷ shelf ∷ words) =
+    if bytes_eq command (codes "judge") && bytes_eq option (codes "--shelf") then judge_with shelf words else None
+judge_of words = None
 
 -- ---- files
 

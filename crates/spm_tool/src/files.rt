@@ -3,7 +3,7 @@ ghost use Rattle.std.specs.Prelude.{◌≡◌, IfErr, IfOk, IfSome, string_bytes
 ghost use Rattle.std.specs.FinMap as map;
 ghost use Rattle.spm_manifest.specs.Profile.{manifest_of};
 ghost use Rattle.spm_resolved.specs.Reading.{resolved_of};
-ghost use Rattle.spm_tool.specs.Ending.{kept_in, manifest_in, read_pins, ready_manifest};
+ghost use Rattle.spm_tool.specs.Ending.{kept_in, locked_in, manifest_in, read_pins, ready_manifest};
 ghost use Rattle.spm_tool.specs.Left.{FaultLeft};
 ghost use Rattle.spm_tool.specs.Report.{IsTellable};
 ghost use Rattle.spm_tool.specs.Steps.{Computes, Steps, faulty_in_step};
@@ -92,6 +92,26 @@ fn read_lock(alloc: Global, bytes: &[u8]) -> Result<Items<(Identity, Release)>, 
             Err(RootEnding::Ended(Outcome::ResolvedUnreadable(place, kind)))
         }
         Err(ResolvedFault::Memory) => Err(RootEnding::Ended(Outcome::Memory)),
+    }
+}
+
+// Gets the pins of the root's lock file, if there is one.
+pub fn get_lock<D: Desk>(
+    alloc: Global,
+    root: &str,
+    desk: &mut D,
+) -> Result<Option<Items<(Identity, Release)>>, RootEnding>
+    ensures told { IfSome (D.state desk.old).files
+        (λ files. Steps GetLock result (locked_in (map.get files (lock_name root.now)))) }
+    ensures fault { FaultLeft (faulty_in_step root.now result) (D.state desk.old) (D.state desk.new) }
+    ensures files { (D.state desk.new).files ≡ (D.state desk.old).files }
+{
+    let name = lock_name(alloc, root)?;
+    match desk.get(name.as_str()) {
+        Ok(Some(bytes)) => Ok(Some(read_lock(alloc, bytes.as_slice())?)),
+        Ok(None) => Ok(None),
+        Err(DeskFault::Failed) => Err(RootEnding::Fault(RootCall::GetLock)),
+        Err(DeskFault::Memory) => Err(RootEnding::Ended(Outcome::Memory)),
     }
 }
 

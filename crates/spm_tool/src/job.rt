@@ -23,7 +23,7 @@ use spm_version::{Items, NoMemory, Release, Text};
 use std::alloc::Global;
 
 // The trait that stands for those that are on by default. Its name is one, so only memory can be lacking.
-fn default_name(alloc: Global) -> Result<TraitName, NoMemory>
+pub fn default_name(alloc: Global) -> Result<TraitName, NoMemory>
     ensures { IfOk result (λ name. name ≡ codes "default") }
 {
     let Ok(name) = TraitName::parse(alloc, "default") else {
@@ -120,7 +120,7 @@ fn job_of(
 }
 
 // Where the shelf stands for a registry.
-fn shelf_base(alloc: Global) -> Result<Base, NoMemory>
+pub fn shelf_base(alloc: Global) -> Result<Base, NoMemory>
     ensures { IfOk result IsPlainBase }
 {
     let host = Text::from_str(alloc, "shelf")?;
@@ -132,7 +132,7 @@ fn shelf_base(alloc: Global) -> Result<Base, NoMemory>
 }
 
 // The fixed replies of the shelf.
-fn book_of(alloc: Global, shelf: &Shelf, base: &Base) -> Result<Book, NoMemory>
+pub fn book_of(alloc: Global, shelf: &Shelf, base: &Base) -> Result<Book, NoMemory>
     requires { IsPlainBase base.now }
     ensures { IfOk result (λ book. IsBookOf shelf.now base.now book) }
 {

@@ -8,8 +8,10 @@
 //! `specs/Shelf.antt`, over `IsEnd` of `spm_session`), once its pins were put, or a fault of the desk at a call. So a new
 //! outcome costs its sentence in `outcome_text` and, where it is no refusal, its status.
 //!
-//! [`still`] does the same for the commands that wait for nobody, of which `check --proof FILE` is built: its clause `run` is `Still` of
-//! `specs/Check.antt`. A file's bytes decide whether the derivation in it holds by its own facts, as `pub_proof::check` says.
+//! [`still`] does the same for the commands that wait for nobody: its clause `run` is `Still` of `specs/Still.antt`. `check --proof FILE`: a
+//! file's bytes decide whether the derivation in it holds by its own facts, as `pub_proof::check` says (`specs/Check.antt`).
+//! `judge --shelf FILE ROOT`: the pins of a lock file are judged over the book of the shelf, as `spm_judge::judge_over` says
+//! (`specs/Judge.antt`).
 //!
 //! The proof goes by steps: the get of the shelf, of the manifest and of the lock file, the job, its outcome and the put are
 //! functions of their own, each of which says what it comes to (`specs/Steps.antt`), what it leaves at the desk, and on which file
@@ -20,6 +22,7 @@ mod check;
 mod ending;
 mod files;
 mod job;
+mod judge;
 mod report;
 mod root;
 mod shelf;

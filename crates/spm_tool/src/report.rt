@@ -111,7 +111,7 @@ fn outcome_text(alloc: Global, outcome: &Outcome) -> Result<String, NoMemory>
 }
 
 // What a root's line says behind its name.
-fn root_text(alloc: Global, root: &str, ending: &RootEnding) -> Result<String, NoMemory>
+pub fn root_text(alloc: Global, root: &str, ending: &RootEnding) -> Result<String, NoMemory>
     ensures { IfOk result (λ text. string_bytes text ≡ root_text root.now ending.now) }
 {
     match ending {
@@ -193,7 +193,7 @@ fn root_report(alloc: Global, root: &str, ending: &RootEnding) -> Result<Bytes, 
 }
 
 // The line on a run without a shelf.
-fn shelf_report(alloc: Global, name: &str, ending: &ShelfEnding) -> Result<String, NoMemory>
+pub fn shelf_report(alloc: Global, name: &str, ending: &ShelfEnding) -> Result<String, NoMemory>
     ensures { IfOk result (λ text. string_bytes text ≡ shelf_report name.now ending.now) }
 {
     match ending {

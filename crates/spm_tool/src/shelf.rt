@@ -3,7 +3,7 @@ ghost use Rattle.std.specs.Prelude.{◌≡◌, IfSome};
 ghost use Rattle.std.specs.FinMap as map;
 ghost use Rattle.std.specs.List.{list_all};
 ghost use Rattle.spm_tool.specs.Left.{FaultLeft};
-ghost use Rattle.spm_tool.specs.Shelf.{ReadsBytes, ReadsShelf, is_built_package, is_built_release, is_built_shelf, is_over};
+ghost use Rattle.spm_tool.specs.Shelf.{ReadsAny, ReadsAnyBytes, ReadsBytes, ReadsShelf, is_built_package, is_built_release, is_built_shelf, is_over};
 ghost use Rattle.spm_tool.specs.Steps.{faulty_shelf};
 
 use crate::ending::ShelfEnding;
@@ -49,7 +49,18 @@ fn is_built_shelf(shelf: &Shelf) -> bool
     shelf.packages().iter().all(|entry| is_built_package(entry))
 }
 
-// Reads the bytes of a shelf's file.
+// Reads the bytes of a shelf's file, whatever is on the shelf.
+fn read_any(alloc: Global, bytes: &[u8]) -> Result<Shelf, ShelfEnding>
+    ensures { ReadsAnyBytes bytes.now result }
+{
+    match Shelf::read(alloc, bytes) {
+        Ok(shelf) => Ok(shelf),
+        Err(ShelfFault::At { place, kind }) => Err(ShelfEnding::Unreadable(place, kind)),
+        Err(ShelfFault::Memory) => Err(ShelfEnding::Memory),
+    }
+}
+
+// Reads the bytes of a shelf's file, to resolve with it.
 fn read_shelf(alloc: Global, bytes: &[u8]) -> Result<Shelf, ShelfEnding>
     ensures { ReadsBytes bytes.now result }
 {
@@ -61,7 +72,22 @@ fn read_shelf(alloc: Global, bytes: &[u8]) -> Result<Shelf, ShelfEnding>
     }
 }
 
-/// Gets the shelf.
+/// Gets the shelf, whatever is on it.
+pub fn get_any_shelf<D: Desk>(alloc: Global, name: &str, desk: &mut D) -> Result<Shelf, ShelfEnding>
+    ensures told { IfSome (D.state desk.old).files (λ files. ReadsAny (map.get files name.now) result) }
+    ensures fault { FaultLeft (faulty_shelf name.now result) (D.state desk.old) (D.state desk.new) }
+    ensures files { (D.state desk.new).files ≡ (D.state desk.old).files }
+{
+    let bytes = match desk.get(name) {
+        Ok(Some(bytes)) => bytes,
+        Ok(None) => return Err(ShelfEnding::Missing),
+        Err(DeskFault::Failed) => return Err(ShelfEnding::Fault),
+        Err(DeskFault::Memory) => return Err(ShelfEnding::Memory),
+    };
+    read_any(alloc, bytes.as_slice())
+}
+
+/// Gets the shelf, to resolve with it.
 pub fn get_shelf<D: Desk>(alloc: Global, name: &str, desk: &mut D) -> Result<Shelf, ShelfEnding>
     ensures told { IfSome (D.state desk.old).files (λ files. ReadsShelf (map.get files name.now) result) }
     ensures fault { FaultLeft (faulty_shelf name.now result) (D.state desk.old) (D.state desk.new) }

@@ -33,7 +33,7 @@ pub fn root_status(ending: &RootEnding) -> u8
 }
 
 // The status of a run without a shelf.
-fn shelf_status(ending: &ShelfEnding) -> u8
+pub fn shelf_status(ending: &ShelfEnding) -> u8
     ensures { result ≡ shelf_status ending.now }
 {
     match ending {

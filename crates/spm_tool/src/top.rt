@@ -1,18 +1,21 @@
 ghost use Rattle.std.specs.Prelude.{◌≡◌, IfSome, map as map_list, string_bytes};
-ghost use Rattle.spm_tool.specs.Check.{Still};
+ghost use Rattle.spm_tool.specs.Check.{ChecksFile};
 ghost use Rattle.spm_tool.specs.Ending.{IsEnding};
+ghost use Rattle.spm_tool.specs.Judge.{JudgesFiles};
 ghost use Rattle.spm_tool.specs.Left.{FaultLeft, FilesLeft, faulty_file};
 ghost use Rattle.spm_tool.specs.Report.{IsTellable};
 ghost use Rattle.spm_tool.specs.Resolves.{Resolves, Runs};
+ghost use Rattle.spm_tool.specs.Still.{Still};
 ghost use Rattle.spm_tool.specs.WordsView.{order_view};
 
 use crate::check::{check_file, check_report};
 use crate::ending::Ending;
+use crate::judge::{judge_files, judge_report, judge_status};
 use crate::report::{refuse_words, report_of, tell};
 use crate::root::run_root;
 use crate::shelf::get_shelf;
 use crate::status::{check_status, status_of};
-use crate::words::{Order, proof_of};
+use crate::words::{Order, judge_of, proof_of};
 use pub_term::Cause;
 use spm_outside::{Desk, Gate, Link, Sink};
 use spm_version::NoMemory;
@@ -73,24 +76,49 @@ pub fn resolve<R: Threads + Wait + Sync, D: Desk, L: Link + Send, O: Sink, G: Ga
     }
 }
 
-/// Does what the words of a command ask that waits for nobody, and gives the exit status.
-///
-/// The words are `check --proof FILE`: the derivation in the file is checked by the file's own facts. The line on it goes to
-/// `out`.
-///
-/// Statuses: 0 the derivation holds, 1 it fails, 2 words that aren't accepted, 3 the file is missing or unreadable, 4 a fault of
-/// the desk or the sink, 6 want of memory.
-pub fn still<D: Desk, O: Sink>(alloc: Global, words: &[String], desk: &mut D, out: &mut O) -> u8
-    ensures run { Still (map_list string_bytes words.now)
+// Judges the lock file that the words ask to judge, and tells it.
+fn judge_order<D: Desk, O: Sink>(alloc: Global, order: &Order, desk: &mut D, out: &mut O) -> u8
+    ensures { JudgesFiles (order_view order.now)
         (D.state desk.old) (D.state desk.new) (O.state out.old) (O.state out.new) result }
 {
-    let Some(file) = proof_of(words) else {
-        return refuse_words(out);
-    };
+    let ending = judge_files(alloc, order, desk);
+    tell(
+        judge_report(alloc, order, &ending),
+        judge_status(&ending),
+        out,
+    )
+}
+
+// Checks the derivation in the file that the words ask to check, and tells it.
+fn check_proof<D: Desk, O: Sink>(alloc: Global, file: &str, desk: &mut D, out: &mut O) -> u8
+    ensures { ChecksFile file.now
+        (D.state desk.old) (D.state desk.new) (O.state out.old) (O.state out.new) result }
+{
     let ending = check_file(alloc, file, desk);
     tell(
         check_report(alloc, file, &ending),
         check_status(&ending),
         out,
     )
+}
+
+/// Does what the words of a command ask that waits for nobody, and gives the exit status.
+///
+/// The words are `check --proof FILE`: the derivation in the file is checked by the file's own facts; or
+/// `judge --shelf FILE [--tools-version V] ROOT`: the pins of the root's `Package.resolved` are judged, whether they are a valid selection of
+/// its `Package.json` with the traits that are on by default, over the shelf. The line on it goes to `out`; no file is put.
+///
+/// Statuses: 0 the derivation holds or the pins are valid, 1 they don't, 2 words that aren't accepted, 3 a file is missing or refused, 4 a
+/// fault of the desk or the sink, 6 want of memory.
+pub fn still<D: Desk, O: Sink>(alloc: Global, words: &[String], desk: &mut D, out: &mut O) -> u8
+    ensures run { Still (map_list string_bytes words.now)
+        (D.state desk.old) (D.state desk.new) (O.state out.old) (O.state out.new) result }
+{
+    if let Some(file) = proof_of(words) {
+        return check_proof(alloc, file, desk, out);
+    }
+    match judge_of(words) {
+        Some(order) => judge_order(alloc, &order, desk, out),
+        None => refuse_words(out),
+    }
 }

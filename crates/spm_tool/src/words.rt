@@ -4,6 +4,9 @@ ghost use Rattle.std.specs.Str.{bytes_eq};
 ghost use Rattle.spm_tool.specs.Words.{
   flag_traits,
   is_value,
+  judge_of,
+  judge_root,
+  judge_with,
   list_traits,
   names_after,
   names_of,
@@ -40,7 +43,7 @@ pub enum TraitWords {
     Nothing,
 }
 
-/// What `resolve` is asked.
+/// What `resolve` or `judge` is asked.
 #[derive(Drop)]
 pub struct Order<'w> {
     /// The name of the shelf file.
@@ -212,6 +215,43 @@ impl<'w> Order<'w> {
             }
             _ => Ok(None),
         }
+    }
+}
+
+// The root of `judge`, with the traits that are on by default.
+fn judge_root<'w>(shelf: &'w str, tools: ToolsVersion, words: &'w [String]) -> Option<Order<'w>>
+    ensures { option_map order_view result ≡ judge_root shelf.now tools (map string_bytes words.now) }
+{
+    match words {
+        [root] => order_with(shelf, tools, Some(TraitWords::ByDefault), root.as_str()),
+        _ => None,
+    }
+}
+
+// The words of `judge` behind the shelf's file.
+fn judge_with<'w>(shelf: &'w str, words: &'w [String]) -> Option<Order<'w>>
+    ensures { option_map order_view result ≡ judge_with shelf.now (map string_bytes words.now) }
+{
+    let [option, value, rest @ ..] = words else {
+        return judge_root(shelf, RUNNING, words);
+    };
+    if option.as_str() != "--tools-version" {
+        return None;
+    }
+    let tools = ToolsVersion::parse(value.as_str())?;
+    judge_root(shelf, tools, rest)
+}
+
+/// What the words ask of `judge`, or none where they are of another form.
+pub fn judge_of<'w>(words: &'w [String]) -> Option<Order<'w>>
+    ensures { option_map order_view result ≡ judge_of (map string_bytes words.now) }
+{
+    match words {
+        [command, option, shelf, rest @ ..]
+            if command.as_str() == "judge" && option.as_str() == "--shelf" => {
+            judge_with(shelf.as_str(), rest)
+        }
+        _ => None,
     }
 }
 
