@@ -1,0 +1,13 @@
+pub mod Readings
+pub mod MetLemmas
+pub mod WholeMembers
+pub mod Distinct
+pub mod Ascending
+pub mod Searching
+pub mod AddedLemmas
+pub mod Setting
+pub mod WritingLemmas
+pub mod TrustTokens
+pub mod TrustData
+pub mod TrustReading
+pub mod TrustLaw
