@@ -6,6 +6,7 @@ use pub_set::Choices;
 use pub_term::{Incompat, Term};
 use serde_json::Value;
 use spm_cache_core::{Asked, CacheState, SharedReply, Why};
+use spm_digest::sum;
 use spm_ident::Identity;
 use spm_key::{Body, Key, Reply};
 use spm_manifest::Manifest;
@@ -265,7 +266,7 @@ fn fill_cache(alloc: Global, keys: &[Key], reply: &SharedReply) -> Result<usize,
 // What the piece needs of the file.
 fn input_of(alloc: Global, piece: &str, text: String) -> Result<Input, BenchError> {
     match piece {
-        "manifest" | "lock" | "proof" | "shelf" | "json" => Ok(Input::Text(text)),
+        "manifest" | "lock" | "proof" | "shelf" | "json" | "sum" => Ok(Input::Text(text)),
         "check" | "wide" => {
             let mut derivation = derivation_of(alloc, text.as_str())?;
             if piece == "wide" {
@@ -292,6 +293,7 @@ fn read_once(alloc: Global, piece: &str, text: &str) -> Result<usize, BenchError
         "lock" => read_lock(alloc, text),
         "proof" => Ok(derivation_of(alloc, text)?.lines.as_slice().len()),
         "json" => read_json(alloc, text),
+        "sum" => Ok(usize::from(sum(text.as_bytes())[0])),
         _ => Ok(shelf_of(alloc, text)?.packages().len()),
     }
 }

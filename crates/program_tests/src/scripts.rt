@@ -452,9 +452,6 @@ out words: not built yet
 run resolve --shelf s.json --traits a
 status 2
 out words: not built yet
-run resolve --shelf s.json --traits a b app
-status 2
-out words: not built yet
 run resolve --shelf s.json --traits a --traits b app
 status 2
 out words: not built yet
@@ -910,24 +907,22 @@ faults 0
 absent app/Package.resolved
 
 case a shelf with a checksum
-desk 2
 file s.json {"packages":{"mona.a":{"1.0.0":{"manifest":"","archive":"","checksum":"e3b0c44298fc1c149afbf4c8996fb92427ae41e4649b934ca495991b7852b855"}}}}
 file app/Package.json $none
 run $go
-status 3
-out s.json: not built yet
+status 0
+out app: resolved 0 in 4 turns
+out $resolved
 faults 0
-absent app/Package.resolved
 
 case a shelf with a checksum
-desk 2
 file s.json {"packages":{"mona.a":{"1.0.0":{"problem":"gone","checksum":"e3b0c44298fc1c149afbf4c8996fb92427ae41e4649b934ca495991b7852b855"}}}}
 file app/Package.json $none
 run $go
-status 3
-out s.json: not built yet
+status 0
+out app: resolved 0 in 4 turns
+out $resolved
 faults 0
-absent app/Package.resolved
 
 case a long shelf
 file s.json {"packages":{}}

@@ -1,1 +1,5 @@
 pub mod RunLemmas
+pub mod ArchiveLemmas
+pub mod PinsLemmas
+pub mod SelectedLemmas
+pub mod RightLemmas

@@ -8,7 +8,7 @@ use Rattle.std.specs.Prelude.{IfErr, IfSome, OnOk, ⊤}
 use Rattle.pub_facts.specs.Catalogue.{Job}
 use Rattle.pub_plain.specs.Answers.{AreShort, Carries, answers_of, lookups_by, unless_refused}
 use Rattle.pub_plain.specs.Choosing.{Pins}
-use Rattle.pub_plain.specs.Derivation.{choice_texts, derivation_in, ordered, pins_in}
+use Rattle.pub_plain.specs.Derivation.{choice_texts, derivation_in, ordered}
 use Rattle.pub_plain.specs.Ending.{AreFew, IsRunning, steps_left}
 use Rattle.pub_plain.specs.Given.{with_said}
 use Rattle.pub_plain.specs.Gives.{IsGiven}
@@ -19,11 +19,9 @@ use Rattle.pub_plain.specs.Stops.{IsRead, TurnStops}
 use Rattle.pub_plain.proofs.DerivationLemmas.{refutation_checked}
 use Rattle.pub_plain.proofs.EndingLemmas.{run_running}
 use Rattle.pub_plain.proofs.FactLineLemmas.{lines_are_facts}
-use Rattle.pub_plain.proofs.FirstSelection.{selection_first}
 use Rattle.pub_plain.proofs.NoneLemmas.{none_valid}
 use Rattle.pub_plain.proofs.PlainLemmas.{carries_more, says_kind}
 use Rattle.pub_plain.proofs.RunLemmas.{run_same, run_solver, run_step}
-use Rattle.pub_plain.proofs.SaidLemmas.{said_ascend}
 use Rattle.pub_plain.proofs.StopLemmas.{turn_stops}
 use Rattle.pub_plain.proofs.StepLemmas.{answers_few, given_falls, turned_falls}
 use Rattle.pub_plain.proofs.TextLemmas.{lengths-choice_texts}
@@ -31,7 +29,7 @@ use Rattle.pub_facts.proofs.FactLemmas.{sizes_length}
 use Rattle.pub_proof.specs.declared.derivation.Derivation.{Derivation}
 use Rattle.pub_term.specs.declared.cause.Cause.{Cause}
 use Rattle.pub_term.specs.declared.term.Term.{Term}
-use Rattle.pub_trail.specs.Turn.{Step, Turn, Went, Needs, Selected, Refuted, turn_of}
+use Rattle.pub_trail.specs.Turn.{Step, Turn, Went, Needs, Refuted, turn_of}
 use Rattle.pub_trail.specs.declared.turned.Turned.TheVariants as turned
 use Rattle.spm_api.specs.Endpoint.{IsReply, request_for}
 use Rattle.spm_api.specs.Refused.{ComesFrom, Refusal, garbled, too_long, unreadable}
@@ -49,8 +47,10 @@ use Rattle.spm_key.specs.declared.key.Key.{Key}
 use Rattle.spm_key.specs.declared.key.Key.TheVariants as key
 use Rattle.spm_key.specs.declared.reply.Reply.{Reply}
 use Rattle.spm_outside.specs.Book.{Pages, response_of}
-use Rattle.spm_session.specs.Outcome.{CanBeTold, IsCheckedDerivationThatNoneExists, IsExplained, IsFirstValidSelection, IsNoFault, IsRefusal, Runs, count_of}
-use Rattle.spm_session.specs.Run.{FaultsBy, IsFrom, IsReadyEnd, IsRefusedBy, IsRun, refused_by}
+use Rattle.spm_session.specs.Archives.{Fingerprints}
+use Rattle.spm_session.specs.Outcome.{CanBeTold, IsCheckedDerivationThatNoneExists, IsExplained, IsNoFault, IsRefusal, Runs, count_of}
+use Rattle.spm_session.specs.Run.{FaultsBy, IsFrom, IsNotFetched, IsOfArchives, IsReadyEnd, IsRefusedBy, IsRun, IsUnasked, refused_by}
+use Rattle.spm_session.proofs.ArchiveLemmas.{elsewhere}
 use Rattle.spm_session.specs.declared.outcome.Outcome.{Outcome}
 use Rattle.spm_session.specs.declared.outcome.Outcome.TheVariants as outcome
 
@@ -136,6 +136,7 @@ pub run_opens : (book : Option Pages) (base : Base) (job : Job) (pins : Pins) �
 run_opens book base job pins = record {
   c = finite.empty;
   from = from book;
+  unasked = λ asked of. none asked;
   answers = fun_ext (λ asked. nothing asked ∙ sym (ap (λ found. said_by asked found) (none asked)));
   count = 0;
   after = refl;
@@ -174,6 +175,7 @@ run_turned book base old new went run =
     subst (IsRun book base) (sym went.2) (record {
       c = run.c;
       from = run.from;
+      unasked = run.unasked;
       answers = run.answers;
       count = suc run.count;
       after = run_step (rules_of old.job old.pins (answers_of run.c)) run.count (Went opening) old.state run.after
@@ -184,11 +186,23 @@ run_turned book base old new went run =
     count_more : (n : ℕ) → counted (count_of n) ≡ count_of (suc n)
     count_more n = omega arith
 
+-- a key that a solver reads is of no archive
+read_before : (asked : Key) → IsRead asked → IsOfArchives asked → ⊥
+read_before (key.List identity) read of = of
+read_before (key.Manifest identity release) read of = of
+read_before (key.Release identity release) read of = read
+read_before (key.Archive identity release) read of = read
+read_before (key.Identifiers url) read of = of
+
+still_unasked : (c : Catalogue) (asked : Key) (reply : Reply) → IsRead asked → IsUnasked c → IsUnasked (finite.insert c asked reply)
+still_unasked c asked reply read unasked other of =
+    elsewhere c asked reply other (λ is. read_before asked read (subst IsOfArchives is of)) ∙ unasked other of
+
 -- after a reply that says something
-pub run_given : (book : Option Pages) (base : Base) (asked : Key) (reply : Reply) (old new : Solver) → answers_now old asked ≡ None
+pub run_given : (book : Option Pages) (base : Base) (asked : Key) (reply : Reply) (old new : Solver) → IsRead asked → answers_now old asked ≡ None
     → ((c : Catalogue) → IsFrom book base c → IsFrom book base (finite.insert c asked reply)) → IsGiven asked reply old new → IsRun book base old
     → IsRun book base new
-run_given book base asked reply old new fresh comes given run =
+run_given book base asked reply old new read fresh comes given run =
     let more = finite.insert run.c asked reply in
     let said = answers_more run.c asked reply given.it given.says in
     let none : answers_of run.c asked ≡ None = ap (λ answers. answers asked) (sym run.answers) ∙ fresh in
@@ -197,6 +211,7 @@ run_given book base asked reply old new fresh comes given run =
     record {
       c = more;
       from = comes run.c run.from;
+      unasked = still_unasked run.c asked reply read run.unasked;
       answers = fun_ext given.answers ∙ ap (with_said asked given.it) run.answers ∙ sym said;
       count = run.count;
       after = subst (λ job. plain_after job new.pins (answers_of more) run.count ≡ Went new.state) (sym given.job)
@@ -213,35 +228,13 @@ pub needs_what : (solver : Solver) (asked : Key) → turn_now solver ≡ Needs a
 needs_what solver asked is =
     subst (TurnStops (answers_now solver)) is (turn_stops solver.job solver.pins (answers_now solver) solver.state)
 
--- the pins of a selection
-pub is_resolved : (same : Cause → Cause → Bool) (book : Option Pages) (base : Base) (solver : Solver) (pins : Pins) (turns : ℕ)
-    → IsRun book base solver → turn_now solver ≡ Selected → pins ≡ pins_in (lookups_by (answers_now solver)) solver.state → turns ≡ solver.turns
-    → IsReadyEnd same book base solver.job solver.pins (outcome.Resolved pins turns)
-is_resolved same book base solver pins turns run is pins_are turns_are = record {
-  c = run.c;
-  from = run.from;
-  is = record {
-    run = runs_to book base solver Selected run is;
-    pins_are = are;
-    turns_are = turns_are ∙ run.turns;
-    first = subst (IsFirstValidSelection solver.job solver.pins (answers_of run.c)) (sym are)
-        (selection_first solver.job solver.pins (answers_of run.c) it.turns it.state (replies_short run.c) (said_ascend run.c) it.after it.is);
-  };
-}
-  where
-    it : Runs solver.job solver.pins (answers_of run.c) Selected
-    it = runs_to book base solver Selected run is
-
-    are : pins ≡ pins_in (lookups_by (answers_of run.c)) solver.state
-    are = pins_are ∙ ap (λ answers. pins_in (lookups_by answers) solver.state) run.answers
-
 -- the derivation of a refutation
-pub is_refuted : (same : Cause → Cause → Bool) (book : Option Pages) (base : Base) (solver : Solver) (found : Derivation) (texts : List (List (List ℕ)))
+pub is_refuted : (same : Cause → Cause → Bool) (book : Option Pages) (base : Base) (fingerprints : Fingerprints) (solver : Solver) (found : Derivation) (texts : List (List (List ℕ)))
     (turns : ℕ) (terms : List Term) (first : ℕ) (steps : List Step) → IsRun book base solver → turn_now solver ≡ Refuted terms first steps
     → found ≡ derivation_in same (lookups_by (answers_now solver)) solver.state first steps
     → texts ≡ choice_texts (lookups_by (answers_now solver)) solver.state.names → turns ≡ solver.turns
-    → IsReadyEnd same book base solver.job solver.pins (outcome.Refuted found texts turns)
-is_refuted same book base solver found texts turns terms first steps run is found_is texts_are turns_are = record {
+    → IsReadyEnd same book base solver.job fingerprints solver.pins (outcome.Refuted found texts turns)
+is_refuted same book base fingerprints solver found texts turns terms first steps run is found_is texts_are turns_are = record {
   c = run.c;
   from = run.from;
   is = record {
@@ -297,19 +290,34 @@ comes_more (Some pages) base asked reply comes c from = comes c from
 
 -- the run goes on
 pub given_on : (book : Option Pages) (base : Base) (asked : Key) (reply : Reply) (old new : Solver) (result : Result ⊤ Outcome)
-    → answers_now old asked ≡ None → ((c : Catalogue) → IsFrom book base c → IsFrom book base (finite.insert c asked reply))
+    → IsRead asked → answers_now old asked ≡ None → ((c : Catalogue) → IsFrom book base c → IsFrom book base (finite.insert c asked reply))
     → OnOk result (IsGiven asked reply old new) → OnOk result (IsRun book base old → IsRun book base new)
-given_on book base asked reply old new (Ok done) fresh comes given = run_given book base asked reply old new fresh comes given
-given_on book base asked reply old new (Err it) fresh comes given = tt
+given_on book base asked reply old new (Ok done) read fresh comes given = run_given book base asked reply old new read fresh comes given
+given_on book base asked reply old new (Err it) read fresh comes given = tt
+
+-- a key that wasn't fetched ends it
+pub unfetched_ends : (same : Cause → Cause → Bool) (book : Option Pages) (base : Base) (fingerprints : Fingerprints) (asked : Key) (old : Solver)
+    (it : Outcome) → turn_now old ≡ Needs asked → IsNotFetched asked it → IsRun book base old
+    → IsReadyEnd same book base old.job fingerprints old.pins it
+unfetched_ends same book base fingerprints asked old it is (inl failed) run =
+    subst (IsReadyEnd same book base old.job fingerprints old.pins) (sym failed)
+    (record { c = run.c; from = run.from; demands = inl (runs_to book base old (Needs asked) run is) })
+unfetched_ends same book base fingerprints asked old it is (inr memory) run =
+    subst (IsReadyEnd same book base old.job fingerprints old.pins) (sym memory) tt
+
+-- and there is nothing to tell
+pub unfetched_told : (asked : Key) (it : Outcome) → IsNotFetched asked it → CanBeTold it
+unfetched_told asked it (inl failed) = subst CanBeTold (sym failed) tt
+unfetched_told asked it (inr memory) = subst CanBeTold (sym memory) tt
 
 -- a reply that is refused ends it
 pub refused_on : (same : Cause → Cause → Bool) (book : Option Pages) (base : Base) (asked : Key) (reply : Reply) (old : Solver)
     (result : Result ⊤ Outcome) → turn_now old ≡ Needs asked → answers_now old asked ≡ None
     → ((c : Catalogue) → IsFrom book base c → IsFrom book base (finite.insert c asked reply)) → IfErr result (λ it. IsRefusedBy asked reply it)
-    → IfErr result (λ it. IsRun book base old → IsReadyEnd same book base old.job old.pins it)
+    → IfErr result (λ it. (fingerprints : Fingerprints) → IsRun book base old → IsReadyEnd same book base old.job fingerprints old.pins it)
 refused_on same book base asked reply old (Ok done) is fresh comes refused = tt
-refused_on same book base asked reply old (Err it) is fresh comes refused = λ run.
-    subst (IsReadyEnd same book base old.job old.pins) (sym refused.is) (by run refused.why refused.says)
+refused_on same book base asked reply old (Err it) is fresh comes refused = λ fingerprints run.
+    subst (IsReadyEnd same book base old.job fingerprints old.pins) (sym refused.is) (by fingerprints run refused.why refused.says)
   where
     -- the catalogue with the reply, over which nothing more is said
     over : (run : IsRun book base old) (reason : Refusal) → reply_said asked reply ≡ Err reason
@@ -322,14 +330,14 @@ refused_on same book base asked reply old (Err it) is fresh comes refused = λ r
           refused = said_then run.c asked reply ∙ ap (λ found. Some found) says;
         }
 
-    by : (run : IsRun book base old) (why : ReplyFault) → Says (Err why) (reply_said asked reply)
-        → IsReadyEnd same book base old.job old.pins (refused_by asked why)
-    by run fault.Garbled says = record { c = finite.insert run.c asked reply; from = comes run.c run.from; is = over run garbled says }
-    by run fault.TooLong says = record { c = finite.insert run.c asked reply; from = comes run.c run.from; is = over run too_long says }
-    by run fault.Unreadable says = record { c = finite.insert run.c asked reply; from = comes run.c run.from; is = over run unreadable says }
-    by run (fault.Says status detail) says =
-        record { c = finite.insert run.c asked reply; from = comes run.c run.from; is = over run (refusal_says status detail) says }
-    by run fault.Memory says = tt
+    by : (fingerprints : Fingerprints) (run : IsRun book base old) (why : ReplyFault) → Says (Err why) (reply_said asked reply)
+        → IsReadyEnd same book base old.job fingerprints old.pins (refused_by asked why)
+    by fingerprints run fault.Garbled says = record { c = finite.insert run.c asked reply; from = comes run.c run.from; is = inl (over run garbled says) }
+    by fingerprints run fault.TooLong says = record { c = finite.insert run.c asked reply; from = comes run.c run.from; is = inl (over run too_long says) }
+    by fingerprints run fault.Unreadable says = record { c = finite.insert run.c asked reply; from = comes run.c run.from; is = inl (over run unreadable says) }
+    by fingerprints run (fault.Says status detail) says =
+        record { c = finite.insert run.c asked reply; from = comes run.c run.from; is = inl (over run (refusal_says status detail) says) }
+    by fingerprints run fault.Memory says = tt
 
 -- and there is nothing to tell
 pub refused_told : (book : Option Pages) (base : Base) (asked : Key) (reply : Reply) (old : Solver) (result : Result ⊤ Outcome)
@@ -346,7 +354,7 @@ refused_told book base asked reply old (Err it) refused = λ run. subst CanBeTol
 
 -- where the link didn't fail its count stays
 pub faults_stay : (it : Outcome) (faults : ℕ) → IsNoFault it → FaultsBy it faults faults
-faults_stay (outcome.Resolved pins turns) faults quiet = refl
+faults_stay (outcome.Resolved pins sums turns) faults quiet = refl
 faults_stay (outcome.Refuted derivation texts turns) faults quiet = refl
 faults_stay outcome.RootMissing faults quiet = refl
 faults_stay (outcome.RootUnreadable place kind) faults quiet = refl
@@ -357,15 +365,20 @@ faults_stay (outcome.RegistrySays asked status detail) faults quiet = refl
 faults_stay (outcome.Garbled asked) faults quiet = refl
 faults_stay (outcome.TooLong asked) faults quiet = refl
 faults_stay (outcome.ListUnreadable asked) faults quiet = refl
+faults_stay (outcome.ReleaseUnreadable asked) faults quiet = refl
+faults_stay (outcome.NoArchive identity release) faults quiet = refl
+faults_stay (outcome.ChecksumDiffers identity release said found) faults quiet = refl
+faults_stay (outcome.TrustDiffers identity release kept said) faults quiet = refl
 faults_stay (outcome.FetchFault asked) faults quiet = absurd quiet
+faults_stay (outcome.DeskFault name) faults quiet = refl
 faults_stay outcome.Memory faults quiet = refl
 
 -- a turn that changes nothing ends as it would have before it
-pub ends_before : (same : Cause → Cause → Bool) (book : Option Pages) (base : Base) (old new : Solver) (it : Outcome) → new ≡ old
-    → (IsRun book base new → IsReadyEnd same book base new.job new.pins it) → IsRun book base old
-    → IsReadyEnd same book base old.job old.pins it
-ends_before same book base old new it is ends =
-    subst (λ (s : Solver). IsRun book base s → IsReadyEnd same book base s.job s.pins it) is ends
+pub ends_before : (same : Cause → Cause → Bool) (book : Option Pages) (base : Base) (fingerprints : Fingerprints) (old new : Solver) (it : Outcome) → new ≡ old
+    → (IsRun book base new → IsReadyEnd same book base new.job fingerprints new.pins it) → IsRun book base old
+    → IsReadyEnd same book base old.job fingerprints old.pins it
+ends_before same book base fingerprints old new it is ends =
+    subst (λ (s : Solver). IsRun book base s → IsReadyEnd same book base s.job fingerprints s.pins it) is ends
 
 -- ---- the end
 

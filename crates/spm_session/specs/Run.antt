@@ -1,12 +1,16 @@
 -- A resolution over a link, turn by turn: what it is at each moment, and how it ends.
-use Rattle.std.specs.Prelude.{◌≡◌, ℕ, Bool, Option, IfSome, Result, Ok, Err, ⊤}
+use Rattle.std.specs.Prelude.{◌≡◌, ℕ, ◌⊎◌, List, [], ◌∷◌, map, Bool, Option, None, IfSome, Result, Ok, Err}
+use Rattle.std.specs.Cmp.Lexicographic.{slice_cmp}
+use Rattle.std.specs.FinMap as replies
+use Rattle.std.specs.List.Sorted.{IsStrictlySortedBy}
+use Rattle.std.specs.Ordering.{nat_cmp}
 use Rattle.pub_facts.specs.Catalogue.{Job}
 use Rattle.pub_plain.specs.Answers.{answers_of}
 use Rattle.pub_plain.specs.Choosing.{Pins}
 use Rattle.pub_plain.specs.Plain.{plain_after}
 use Rattle.pub_plain.specs.Solver.{Solver, answers_now}
 use Rattle.pub_term.specs.declared.cause.Cause.{Cause}
-use Rattle.pub_trail.specs.Turn.{Needs, Went}
+use Rattle.pub_trail.specs.Turn.{Went}
 use Rattle.spm_api.specs.Refused.{ComesFrom}
 use Rattle.spm_api.specs.Said.{Says, reply_said}
 use Rattle.spm_api.specs.declared.base.Base.{Base}
@@ -14,10 +18,12 @@ use Rattle.spm_api.specs.declared.replies.ReplyFault.{ReplyFault}
 use Rattle.spm_api.specs.declared.replies.ReplyFault.TheVariants as fault
 use Rattle.spm_key.specs.Catalogue.{Catalogue}
 use Rattle.spm_key.specs.declared.key.Key.{Key}
+use Rattle.spm_key.specs.declared.key.Key.TheVariants as key
 use Rattle.spm_key.specs.declared.reply.Reply.{Reply}
 use Rattle.spm_outside.specs.Book.{Pages}
 use Rattle.spm_outside.specs.Faults.{Rises}
-use Rattle.spm_session.specs.Outcome.{IsOfFiles, IsReadyOutcome, Runs, count_of}
+use Rattle.spm_session.specs.Archives.{Fingerprints, Pin, Stop, archive_key, ends, looked_at, needs, release_key}
+use Rattle.spm_session.specs.Outcome.{Demands, IsOfFiles, IsReadyOutcome, count_of}
 use Rattle.spm_session.specs.declared.job.RootInput.{RootInput}
 use Rattle.spm_session.specs.declared.job.RootInput.TheVariants as input
 use Rattle.spm_session.specs.declared.job.RootJob.{RootJob}
@@ -28,48 +34,62 @@ use Rattle.spm_session.specs.declared.outcome.Outcome.TheVariants as outcome
 abbrev pub IsFrom : Option Pages → Base → Catalogue → Type 0
 IsFrom book base c = IfSome book (λ pages. ComesFrom c pages base)
 
+-- a key that a resolution reads once it has a selection
+abbrev pub IsOfArchives : Key → Type 0
+IsOfArchives (key.List identity) = ⊥
+IsOfArchives (key.Manifest identity release) = ⊥
+IsOfArchives (key.Release identity release) = Unit {0}
+IsOfArchives (key.Archive identity release) = Unit {0}
+IsOfArchives (key.Identifiers url) = ⊥
+
+-- no release and no archive has a reply yet
+abbrev pub IsUnasked : Catalogue → Type 0
+IsUnasked c = (asked : Key) → IsOfArchives asked → replies.get c asked ≡ None
+
 -- the solver has done what a plain resolution over the replies so far does
 pub record IsRun (book : Option Pages) (base : Base) (solver : Solver) : Type 0 where
   pub c : Catalogue
   pub from : IsFrom book base c
+  pub unasked : IsUnasked c
   pub answers : answers_now solver ≡ answers_of c
   pub count : ℕ
   pub after : plain_after solver.job solver.pins (answers_of c) count ≡ Went solver.state
   pub turns : solver.turns ≡ count_of count
 
 -- a demanded key that couldn't be fetched
-pub record IsUnfetched (book : Option Pages) (base : Base) (job : Job) (pins : Pins) (asked : Key) : Type 0 where
+pub record IsUnfetched (book : Option Pages) (base : Base) (job : Job) (fingerprints : Fingerprints) (pins : Pins) (asked : Key) : Type 0 where
   pub c : Catalogue
   pub from : IsFrom book base c
-  pub run : Runs job pins (answers_of c) (Needs asked)
+  pub demands : Demands job fingerprints pins c asked
 
 -- the outcome over some catalogue that comes from the book
-pub record IsOver (same : Cause → Cause → Bool) (book : Option Pages) (base : Base) (job : Job) (pins : Pins) (it : Outcome) : Type 0 where
+pub record IsOver (same : Cause → Cause → Bool) (book : Option Pages) (base : Base) (job : Job) (fingerprints : Fingerprints) (pins : Pins)
+    (it : Outcome) : Type 0 where
   pub c : Catalogue
   pub from : IsFrom book base c
-  pub is : IsReadyOutcome same job pins c it
+  pub is : IsReadyOutcome same job fingerprints pins c it
 
 -- how a job that is ready ends: want of memory, a fault of the link at a demanded key, or else the outcome of the definition
-abbrev pub IsReadyEnd : (Cause → Cause → Bool) → Option Pages → Base → Job → Pins → Outcome → Type 0
-IsReadyEnd same book base job pins outcome.Memory = Unit {0}
-IsReadyEnd same book base job pins (outcome.FetchFault asked) = IsUnfetched book base job pins asked
-IsReadyEnd same book base job pins it = IsOver same book base job pins it
+abbrev pub IsReadyEnd : (Cause → Cause → Bool) → Option Pages → Base → Job → Fingerprints → Pins → Outcome → Type 0
+IsReadyEnd same book base job fingerprints pins outcome.Memory = Unit {0}
+IsReadyEnd same book base job fingerprints pins (outcome.FetchFault asked) = IsUnfetched book base job fingerprints pins asked
+IsReadyEnd same book base job fingerprints pins it = IsOver same book base job fingerprints pins it
 
 -- a job that holds a refusal ends with it
-abbrev pub IsEndBy : (Cause → Cause → Bool) → Option Pages → Base → RootJob → RootInput → Outcome → Type 0
-IsEndBy same book base job (input.Refused refusal) it = it ≡ refusal
-IsEndBy same book base job (input.Ready manifest origin pins) it =
-    IsReadyEnd same book base (record { root = manifest; asked = job.asked; tools = job.tools }) pins it
+abbrev pub IsEndBy : (Cause → Cause → Bool) → Option Pages → Base → Fingerprints → RootJob → RootInput → Outcome → Type 0
+IsEndBy same book base fingerprints job (input.Refused refusal) it = it ≡ refusal
+IsEndBy same book base fingerprints job (input.Ready manifest origin pins) it =
+    IsReadyEnd same book base (record { root = manifest; asked = job.asked; tools = job.tools }) fingerprints pins it
 
-abbrev pub IsEnd : (Cause → Cause → Bool) → Option Pages → Base → RootJob → Outcome → Type 0
-IsEnd same book base job it = IsEndBy same book base job job.input it
+abbrev pub IsEnd : (Cause → Cause → Bool) → Option Pages → Base → Fingerprints → RootJob → Outcome → Type 0
+IsEnd same book base fingerprints job it = IsEndBy same book base fingerprints job job.input it
 
 -- the link's count of faults rises where a fetch failed, and stays else
 abbrev pub FaultsBy : Outcome → ℕ → ℕ → Type 0
 FaultsBy (outcome.FetchFault asked) old new = Rises old new
 FaultsBy it old new = new ≡ old
 
-abbrev pub FaultsAfterStep : Result ⊤ Outcome → ℕ → ℕ → Type 0
+abbrev pub FaultsAfterStep : {A : Type 0} → Result A Outcome → ℕ → ℕ → Type 0
 FaultsAfterStep (Ok done) old new = new ≡ old
 FaultsAfterStep (Err it) old new = FaultsBy it old new
 
@@ -92,6 +112,90 @@ pub record IsRefusedBy (asked : Key) (reply : Reply) (it : Outcome) : Type 0 whe
   pub why : ReplyFault
   pub is : it ≡ refused_by asked why
   pub says : Says (Err why) (reply_said asked reply)
+
+-- ---- of a key that is fetched
+
+-- it could not be fetched, or memory wasn't there
+abbrev pub IsNotFetched : Key → Outcome → Type 0
+IsNotFetched asked it = (it ≡ outcome.FetchFault asked) ⊎ (it ≡ outcome.Memory)
+
+-- the replies from the book are still the book's with this one
+abbrev pub IsOneOf : Option Pages → Base → Key → Reply → Type 0
+IsOneOf book base asked reply = (c : Catalogue) → IsFrom book base c → IsFrom book base (replies.insert c asked reply)
+
+-- ---- of the archives of pins
+
+-- what is found is that of the definition, where memory was there
+abbrev pub FindsErr : Outcome → Result (List ℕ) Outcome → Type 0
+FindsErr outcome.Memory found = Unit {0}
+FindsErr it found = found ≡ Err it
+
+abbrev pub Finds : Result (List ℕ) Outcome → Result (List ℕ) Outcome → Type 0
+Finds (Ok sum) found = found ≡ Ok sum
+Finds (Err it) found = FindsErr it found
+
+-- the look stopped at a key that couldn't be fetched, or at the root's end; or memory wasn't there
+abbrev pub StopsAt : {A : Type 0} → Outcome → Result A Stop → Type 0
+StopsAt outcome.Memory found = Unit {0}
+StopsAt (outcome.FetchFault asked) found = found ≡ Err (needs asked)
+StopsAt it found = found ≡ Err (ends it)
+
+-- what a look comes to
+abbrev pub Looks : {A : Type 0} → Result A Outcome → Result A Stop → Type 0
+Looks (Ok x) found = found ≡ Ok x
+Looks (Err it) found = StopsAt it found
+
+-- two catalogues differ at no other keys
+abbrev pub DifferOnlyAt : (Key → Type 0) → Catalogue → Catalogue → Type 0
+DifferOnlyAt is_there more c = (asked : Key) → (is_there asked → ⊥) → replies.get more asked ≡ replies.get c asked
+
+-- over a catalogue from the book that has more of these keys, this is what a look comes to
+pub record LooksOver {A : Type 0} (book : Option Pages) (base : Base) (is_there : Key → Type 0) (look : Catalogue → Result A Stop) (c : Catalogue)
+    (result : Result A Outcome) : Type 0 where
+  pub more : Catalogue
+  pub from : IsFrom book base more
+  pub others : DifferOnlyAt is_there more c
+  pub looks : Looks result (look more)
+
+-- how a look at archives may end
+abbrev pub IsOfArchivesEnd : Outcome → Type 0
+IsOfArchivesEnd (outcome.RegistrySays asked status detail) = Unit {0}
+IsOfArchivesEnd (outcome.Garbled asked) = Unit {0}
+IsOfArchivesEnd (outcome.TooLong asked) = Unit {0}
+IsOfArchivesEnd (outcome.ListUnreadable asked) = Unit {0}
+IsOfArchivesEnd (outcome.ReleaseUnreadable asked) = Unit {0}
+IsOfArchivesEnd (outcome.NoArchive identity release) = Unit {0}
+IsOfArchivesEnd (outcome.ChecksumDiffers identity release said found) = Unit {0}
+IsOfArchivesEnd (outcome.TrustDiffers identity release kept said) = Unit {0}
+IsOfArchivesEnd (outcome.FetchFault asked) = Unit {0}
+IsOfArchivesEnd outcome.Memory = Unit {0}
+IsOfArchivesEnd it = ⊥
+
+-- the two keys of a pin, and those of pins
+abbrev pub IsKeyOf : Pin → Key → Type 0
+IsKeyOf pin asked = (asked ≡ release_key pin) ⊎ (asked ≡ archive_key pin)
+
+abbrev pub IsKeyOfAny : List Pin → Key → Type 0
+IsKeyOfAny [] asked = ⊥
+IsKeyOfAny (pin ∷ pins) asked = IsKeyOf pin asked ⊎ IsKeyOfAny pins asked
+
+-- none of these keys has a reply
+abbrev pub LacksAll : (Key → Type 0) → Catalogue → Type 0
+LacksAll is_there c = (asked : Key) → is_there asked → replies.get c asked ≡ None
+
+-- from each catalogue that lacks these keys on
+abbrev pub LooksFrom : {A : Type 0} → Option Pages → Base → (Key → Type 0) → (Catalogue → Result A Stop) → Result A Outcome → Type 0
+LooksFrom book base is_there look result =
+    (c : Catalogue) → IsFrom book base c → LacksAll is_there c → LooksOver book base is_there look c result
+
+-- whatever is to be read of the reply of the key, the look ends so
+abbrev pub IsUnanswered : Option Pages → Base → Key → Outcome → Type 0
+IsUnanswered book base asked it = (says : Reply → Result (List ℕ) Outcome)
+    → LooksFrom book base (λ other. other ≡ asked) (λ c. looked_at c asked says) (Err it)
+
+-- pins in the order of their identities, each once
+abbrev pub ArePinsAscending : List Pin → Type 0
+ArePinsAscending pins = IsStrictlySortedBy (slice_cmp nat_cmp) (map (λ (pin : Pin). pin.0) pins)
 
 -- ---- of a job
 

@@ -8,7 +8,8 @@ ghost use Rattle.pub_plain.specs.Choosing.{Pins};
 ghost use Rattle.pub_proof.specs.declared.derivation.Derivation.{Derivation};
 ghost use Rattle.pub_term.specs.declared.cause.Cause.{Cause};
 ghost use Rattle.spm_key.specs.Catalogue.{Catalogue};
-ghost use Rattle.spm_session.specs.Outcome.{IsRefuted, IsResolved};
+ghost use Rattle.spm_session.specs.Archives.{AreRight, Fingerprints};
+ghost use Rattle.spm_session.specs.Outcome.{IsRefuted, IsResolved, IsSelected};
 
 /// A law, with nothing to run: where a root is refuted over a catalogue of replies, it has no valid selection, whatever else a registry may
 /// say that says the same of the keys of the catalogue.
@@ -21,6 +22,13 @@ pub fn a_refuted_root_has_no_selection()
 /// A law, with nothing to run: a root that was resolved over a catalogue of replies, resolved again over it with the pins that it got, gets the
 /// same pins.
 pub fn resolving_again_keeps_the_pins()
-    ensures { (job : Job) (pins : Pins) (c : Catalogue) (found again : Pins) (turns turns_again : ℕ) → IsResolved job pins c found turns
-        → IsResolved job found c again turns_again → again ≡ found }
+    ensures { (job : Job) (pins : Pins) (c : Catalogue) (found again : Pins) (turns turns_again : ℕ) → IsSelected job pins c found turns
+        → IsSelected job found c again turns_again → again ≡ found }
+{}
+
+/// A law, with nothing to run: where a root was resolved over a catalogue of replies, the release of each pin names a checksum, its archive has
+/// that sum, and no other fingerprint is kept of it; these are the sums that the outcome has.
+pub fn the_archives_of_a_resolved_root_are_right()
+    ensures { (job : Job) (fingerprints : Fingerprints) (pins : Pins) (c : Catalogue) (found : Pins) (sums : List (List ℕ)) (turns : ℕ)
+        → IsResolved job fingerprints pins c found sums turns → AreRight fingerprints c found sums }
 {}

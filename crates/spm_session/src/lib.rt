@@ -1,8 +1,9 @@
 //! The resolution of one root: its job, what it comes to, and the plain resolution in one thread.
 //!
 //! `specs/Outcome.antt` says what a root comes to over a catalogue of replies, as the first of its items that applies: the refusal that
-//! the job holds, the first demanded key whose reply is refused, a limit, a refutation, or the pins of the first selection. It has no link,
-//! cache or memory in it.
+//! the job holds, the first demanded key whose reply is refused, a limit, a refutation, what is wrong with an archive of what is selected,
+//! or the pins of the first selection. `specs/Archives.antt` says how the archives are looked at: of each pin its release, which names a
+//! checksum, and then its archive, which has that sum, as has a fingerprint that is kept. Neither has a link, cache or memory in it.
 //!
 //! The contract that the layers above use is the clause `end` of [`run_alone`]: the outcome is that of the definition over replies of the
 //! link's book, or a fault of the link at a demanded key, or want of memory.
@@ -14,16 +15,24 @@
 //! How the proof goes: at each moment the solver has done what a plain resolution over the replies so far does (`IsRun` of
 //! `specs/Run.antt`). A turn goes on from there; a reply that is given changes none of the turns that were done (`runs_go_on` of
 //! `pub_plain`), and one that is refused says nothing (`proofs/RunLemmas`).
-//! A number falls at each turn and at each reply (`resolutions_end`), so the loop comes to its end.
+//! A number falls at each turn and at each reply (`resolutions_end`), so the loop comes to its end. The archives are looked at from a
+//! catalogue on that has no reply of them yet; the replies that come change nothing of the selection (`proofs/SelectedLemmas`), and what
+//! was right of a pin stays right (`proofs/ArchiveLemmas`, `PinsLemmas`).
 #![tactic(auto)]
 
+mod archives;
+mod asking;
 mod job;
 mod laws;
 mod outcome;
 mod run;
 mod shared;
 
+pub use asking::refused;
 pub use job::{RootInput, RootJob};
-pub use laws::{a_refuted_root_has_no_selection, resolving_again_keeps_the_pins};
+pub use laws::{
+    a_refuted_root_has_no_selection, resolving_again_keeps_the_pins,
+    the_archives_of_a_resolved_root_are_right,
+};
 pub use outcome::Outcome;
-pub use run::{refused, run_alone};
+pub use run::run_alone;

@@ -10,9 +10,10 @@ use spm_version::{Items, Kind, NoMemory, Release, Text, ToolsVersion};
 /// What the resolution of a root comes to.
 #[derive(Debug, Drop)]
 pub enum Outcome {
-    /// The first valid selection, in the order of identities, and the number of turns.
+    /// The first valid selection, in the order of identities, the SHA-256 of the archive of each pin, and the number of turns.
     Resolved {
         pins: Items<(Identity, Release)>,
+        checksums: Items<[u8; 32]>,
         turns: u64,
     },
     /// No selection exists: a derivation that says so, the texts of its nodes' choices, and the number of turns.
@@ -39,8 +40,18 @@ pub enum Outcome {
     TooLong(Key),
     /// The list or look-up of this key isn't of its form.
     ListUnreadable(Key),
+    /// The release of this key isn't of its form.
+    ReleaseUnreadable(Key),
+    /// There is no archive of this release, or its release names no checksum of one.
+    NoArchive(Identity, Release),
+    /// The checksum that is named of this release's archive, and the SHA-256 of the archive, which is another.
+    ChecksumDiffers(Identity, Release, [u8; 32], [u8; 32]),
+    /// The fingerprint that is kept of this release, and the checksum that is named of its archive, which is another.
+    TrustDiffers(Identity, Release, [u8; 32], [u8; 32]),
     /// The link failed at this key.
     FetchFault(Key),
+    /// The get or put of this file failed.
+    DeskFault(Text),
     /// Want of memory.
     Memory,
 }

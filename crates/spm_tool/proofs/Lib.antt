@@ -1,1 +1,7 @@
+pub mod FaultLemmas
+pub mod GainLemmas
+pub mod JobLemmas
+pub mod PutLemmas
 pub mod Refusals
+pub mod ReportLemmas
+pub mod WordLemmas

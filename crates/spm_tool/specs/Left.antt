@@ -1,50 +1,64 @@
--- What a run leaves at its desk: functions of the ending.
-use Rattle.std.specs.Prelude.{◌≡◌, ℕ, List, [], ◌∷◌, ◌++◌, Option, Some, None, option_map}
-use Rattle.std.specs.FinMap as map
-use Rattle.spm_outside.specs.Desk.{DeskState, OthersStay}
+-- Which files the desk fails at, in the order of the calls, and what that leaves.
+use Rattle.std.specs.Prelude.{◌≡◌, ℕ, List, [], ◌∷◌, ◌++◌, Option, Some, None, Result, Ok, Err, option_map}
+use Rattle.spm_outside.specs.Desk.{DeskState}
 use Rattle.spm_outside.specs.Faults.{Rises}
-use Rattle.spm_outside.specs.Names.{FileMap}
-use Rattle.spm_tool.specs.Words.{Order, lock_name, manifest_name}
+use Rattle.spm_session.specs.declared.outcome.Outcome.{Outcome}
+use Rattle.spm_session.specs.declared.outcome.Outcome.TheVariants as outcome
+use Rattle.spm_tool.specs.Puts.{failed_puts, puts_of}
+use Rattle.spm_tool.specs.Words.{Order}
 use Rattle.spm_tool.specs.declared.ending.Ending.{Ending}
-use Rattle.spm_tool.specs.declared.ending.Ending.TheVariants as run
-use Rattle.spm_tool.specs.declared.ending.ShelfEnding.{ShelfEnding}
-use Rattle.spm_tool.specs.declared.ending.ShelfEnding.TheVariants as shelf
-use Rattle.spm_tool.specs.declared.ending.RootCall.{RootCall}
-use Rattle.spm_tool.specs.declared.ending.RootCall.TheVariants.{GetManifest, GetLock, PutLock}
-use Rattle.spm_tool.specs.declared.ending.RootEnding.{RootEnding}
-use Rattle.spm_tool.specs.declared.ending.RootEnding.TheVariants.{Fault, Resolved}
+use Rattle.spm_tool.specs.declared.ending.Ending.TheVariants as ending
+use Rattle.spm_tool.specs.declared.ending.FileEnding.{FileEnding}
+use Rattle.spm_tool.specs.declared.ending.FileEnding.TheVariants as file
+use Rattle.spm_tool.specs.declared.ending.RootRun.{RootRun}
 
--- the file of a call for a root
-abbrev pub file_of_call : List ℕ → RootCall → List ℕ
-file_of_call root GetManifest = manifest_name root
-file_of_call root GetLock = lock_name root
-file_of_call root PutLock = lock_name root
+-- the desk counted faults and named these files, in this order; where there is none, neither
+abbrev pub FaultsLeft : List (List ℕ) → DeskState → DeskState → Type 0
+FaultsLeft [] before after = (after.failed ≡ before.failed) × (after.faults ≡ before.faults)
+FaultsLeft (name ∷ names) before after =
+    (after.failed ≡ option_map (λ failed. failed ++ name ∷ names) before.failed) × Rises before.faults after.faults
 
--- the file on which the desk failed, if it did
-abbrev pub faulty_root_file : List ℕ → RootEnding → Option (List ℕ)
-faulty_root_file root (Fault call) = Some (file_of_call root call)
-faulty_root_file root ending = None
+-- ---- which files they are
 
-abbrev pub faulty_shelf_file : List ℕ → ShelfEnding → Option (List ℕ)
-faulty_shelf_file name shelf.Fault = Some name
-faulty_shelf_file name ending = None
+abbrev pub faulty_file : List ℕ → FileEnding → List (List ℕ)
+faulty_file name file.Fault = name ∷ []
+faulty_file name why = []
 
-abbrev pub faulty_file : Order → Ending → Option (List ℕ)
-faulty_file order (run.Shelf ending) = faulty_shelf_file order.shelf ending
-faulty_file order (run.Root ending) = faulty_root_file order.root ending
+abbrev pub faulty_get : Outcome → List (List ℕ)
+faulty_get (outcome.DeskFault name) = name ∷ []
+faulty_get it = []
 
--- the desk counted a fault and named this file; where there is none, neither
-abbrev pub FaultLeft : Option (List ℕ) → DeskState → DeskState → Type 0
-FaultLeft (Some name) before after =
-    (after.failed ≡ option_map (λ names. names ++ name ∷ []) before.failed) × Rises before.faults after.faults
-FaultLeft None before after = (after.failed ≡ before.failed) × (after.faults ≡ before.faults)
+-- of a step
+abbrev pub faulty_in_file : {A : Type 0} → List ℕ → Result A FileEnding → List (List ℕ)
+faulty_in_file name (Ok found) = []
+faulty_in_file name (Err why) = faulty_file name why
 
--- The lock file is put where the root was resolved, and is unknown where its put failed; nothing else changes.
-abbrev pub RootFilesLeft : List ℕ → RootEnding → Option FileMap → Option FileMap → Type 0
-RootFilesLeft root (Resolved text count turns) old new = new ≡ option_map (λ files. map.insert files (lock_name root) text) old
-RootFilesLeft root (Fault PutLock) old new = OthersStay (lock_name root) old new
-RootFilesLeft root ending old new = new ≡ old
+abbrev pub faulty_in : {A : Type 0} → Result A Outcome → List (List ℕ)
+faulty_in (Ok found) = []
+faulty_in (Err it) = faulty_get it
 
-abbrev pub FilesLeft : Order → Ending → Option FileMap → Option FileMap → Type 0
-FilesLeft order (run.Shelf ending) old new = new ≡ old
-FilesLeft order (run.Root ending) old new = RootFilesLeft order.root ending old new
+-- of roots: at the gets of their files
+abbrev pub faulty_gets : List RootRun → List (List ℕ)
+faulty_gets [] = []
+faulty_gets (run ∷ runs) = faulty_get run.outcome ++ faulty_gets runs
+
+abbrev pub named : Option (List ℕ) → List ℕ
+named (Some name) = name
+named None = []
+
+-- of a run: at the gets of its files, and then at the puts
+abbrev pub faulty_files : Order → Ending → List (List ℕ)
+faulty_files order (ending.Shelf why) = faulty_file order.shelf why
+faulty_files order (ending.Fingerprints why) = faulty_file (named order.fingerprints) why
+faulty_files order (ending.Roots runs puts gained it) = faulty_gets runs ++ failed_puts (puts_of order (ending.Roots runs puts gained it))
+faulty_files order ending.Memory = []
+
+-- a run that ended in want of memory before any root was done may have failed at gets
+abbrev pub FaultsOf : Order → Ending → DeskState → DeskState → Type 0
+FaultsOf order ending.Memory before after = (names : List (List ℕ)) × FaultsLeft names before after
+FaultsOf order it before after = FaultsLeft (faulty_files order it) before after
+
+-- the same of the roots' run, which ends in want of memory or with an ending
+abbrev pub FaultsOfRun : {E : Type 0} → Order → Result Ending E → DeskState → DeskState → Type 0
+FaultsOfRun order (Ok it) before after = FaultsLeft (faulty_files order it) before after
+FaultsOfRun order (Err want) before after = (names : List (List ℕ)) × FaultsLeft names before after

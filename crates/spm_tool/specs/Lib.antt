@@ -1,12 +1,16 @@
 pub mod Words
 pub mod WordsView
-pub mod Faultless
 pub mod Shelf
+pub mod Files
+pub mod Puts
 pub mod Ending
 pub mod Left
+pub mod Jobs
 pub mod Steps
 pub mod Report
 pub mod Resolves
 pub mod Check
+pub mod Faultless
 pub mod Judge
+pub mod Shown
 pub mod Still

@@ -6,8 +6,9 @@ use Rattle.spm_outside.specs.Desk.{DeskState}
 use Rattle.spm_outside.specs.Faults.{FaultsAfter}
 use Rattle.spm_outside.specs.Sink.{PutsAll, SinkState}
 use Rattle.spm_outside.specs.declared.fault.CallFault.{CallFault}
-use Rattle.spm_tool.specs.Ending.{IsEnding}
-use Rattle.spm_tool.specs.Left.{FaultLeft, FilesLeft, faulty_file}
+use Rattle.spm_tool.specs.Ending.{ArePutsOf, IsEnding}
+use Rattle.spm_tool.specs.Left.{FaultsOf}
+use Rattle.spm_tool.specs.Puts.{PutsLeave, puts_of}
 use Rattle.spm_tool.specs.Report.{report_of, status_after, status_of, words_report}
 use Rattle.spm_tool.specs.Words.{Order, order_of}
 use Rattle.spm_tool.specs.declared.ending.Ending.{Ending}
@@ -32,9 +33,10 @@ pub record Tells (report : List ℕ) (ending_status : ℕ) (before after : SinkS
 pub record Runs (same : Cause → Cause → Bool) (order : Order) (before after : DeskState) (sink_before sink_after : SinkState) (status : ℕ) : Type 0 where
   pub ending : Ending
   pub told : IfSome before.files (λ files. IsEnding same order files ending)
-  pub fault : FaultLeft (faulty_file order ending) before after
-  pub files : FilesLeft order ending before.files after.files
-  pub report : Tells (report_of order ending) (status_of ending) sink_before sink_after status
+  pub puts : ArePutsOf order ending
+  pub faults : FaultsOf order ending before after
+  pub files : PutsLeave (puts_of order ending) before.files after.files
+  pub report : Tells (report_of order ending) (status_of order ending) sink_before sink_after status
 
 -- words that aren't accepted touch no file; their status is 2 whatever the sink does
 pub record RefusesWords (before after : DeskState) (sink_before sink_after : SinkState) (status : ℕ) : Type 0 where

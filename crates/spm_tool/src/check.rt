@@ -7,32 +7,30 @@ ghost use Rattle.spm_tool.specs.Check.{
   check_in,
   check_read,
   check_report,
+  check_status,
   faulty_check,
   verdict,
 };
-ghost use Rattle.spm_tool.specs.Left.{FaultLeft};
+ghost use Rattle.spm_tool.specs.Left.{FaultsLeft};
 
-use crate::report::unreadable_text;
+use crate::ending::FileEnding;
+use crate::files::get_file;
+use crate::report::file_report;
+use crate::status::file_status;
 use pub_proof::{Derivation, ProofFault, ProofFileFault, ProofKind, check};
-use spm_outside::{Desk, DeskFault};
-use spm_version::{Bytes, Kind, NoMemory, Text};
+use spm_outside::Desk;
+use spm_version::{Bytes, NoMemory};
 use std::alloc::Global;
 
 /// How the check of a derivation's file ends.
 #[derive(Debug, Drop)]
 pub enum CheckEnding {
-    /// There is no such file.
-    Missing,
-    /// It is no file of a derivation: the place and the kind of its first fault.
-    Unreadable(Text, Kind),
-    /// The desk failed at the file.
-    Fault,
+    /// There is no derivation to check.
+    File(FileEnding),
     /// The derivation holds, with so many lines.
     Holds(usize),
     /// The derivation fails: the first bad line, and what is wrong with it.
     Fails(u64, ProofKind),
-    /// Want of memory.
-    Memory,
 }
 
 // Checks a derivation by its own facts.
@@ -40,12 +38,12 @@ fn check_derivation(alloc: Global, derivation: &Derivation) -> CheckEnding
     ensures { IsVerdict (verdict derivation.now) result }
 {
     let Ok(facts) = derivation.facts(alloc) else {
-        return CheckEnding::Memory;
+        return CheckEnding::File(FileEnding::Memory);
     };
     match check(alloc, derivation, facts.as_slice()) {
         Ok(_) => CheckEnding::Holds(derivation.lines.as_slice().len()),
         Err(ProofFault::At { line, kind }) => CheckEnding::Fails(line, kind),
-        Err(ProofFault::Memory) => CheckEnding::Memory,
+        Err(ProofFault::Memory) => CheckEnding::File(FileEnding::Memory),
     }
 }
 
@@ -55,23 +53,24 @@ fn check_bytes(alloc: Global, bytes: &[u8]) -> CheckEnding
 {
     match Derivation::read(alloc, bytes) {
         Ok(derivation) => check_derivation(alloc, &derivation),
-        Err(ProofFileFault::At { place, kind }) => CheckEnding::Unreadable(place, kind),
-        Err(ProofFileFault::Memory) => CheckEnding::Memory,
+        Err(ProofFileFault::At { place, kind }) => {
+            CheckEnding::File(FileEnding::Unreadable(place, kind))
+        }
+        Err(ProofFileFault::Memory) => CheckEnding::File(FileEnding::Memory),
     }
 }
 
 // Checks the derivation in a file of the desk.
 pub fn check_file<D: Desk>(alloc: Global, file: &str, desk: &mut D) -> CheckEnding
     ensures told { IfSome (D.state desk.old).files (λ files. IsCheck (check_in (map.get files file.now)) result) }
-    ensures fault { FaultLeft (faulty_check file.now result)
+    ensures faults { FaultsLeft (faulty_check file.now result)
         (D.state desk.old) (D.state desk.new) }
     ensures files { (D.state desk.new).files ≡ (D.state desk.old).files }
 {
-    match desk.get(file) {
+    match get_file(file, desk) {
         Ok(Some(bytes)) => check_bytes(alloc, bytes.as_slice()),
-        Ok(None) => CheckEnding::Missing,
-        Err(DeskFault::Failed) => CheckEnding::Fault,
-        Err(DeskFault::Memory) => CheckEnding::Memory,
+        Ok(None) => CheckEnding::File(FileEnding::Missing),
+        Err(why) => CheckEnding::File(why),
     }
 }
 
@@ -80,17 +79,11 @@ fn check_line(alloc: Global, file: &str, ending: &CheckEnding) -> Result<String,
     ensures { IfOk result (λ text. string_bytes text ≡ check_report file.now ending.now) }
 {
     match ending {
-        CheckEnding::Missing => Ok(format!(in alloc; "{file}: missing\n")?),
-        CheckEnding::Unreadable(place, kind) => {
-            let text = unreadable_text(alloc, place, *kind)?;
-            Ok(format!(in alloc; "{file}: {text}\n")?)
-        }
-        CheckEnding::Fault => Ok(format!(in alloc; "{file}: file fault\n")?),
+        CheckEnding::File(why) => file_report(alloc, file, why),
         CheckEnding::Holds(lines) => Ok(format!(in alloc; "proof holds, {lines} lines\n")?),
         CheckEnding::Fails(line, kind) => {
             Ok(format!(in alloc; "proof fails at line {line}: {kind}\n")?)
         }
-        CheckEnding::Memory => Ok(String::new(alloc)),
     }
 }
 
@@ -100,4 +93,15 @@ pub fn check_report(alloc: Global, file: &str, ending: &CheckEnding) -> Result<B
 {
     let line = check_line(alloc, file, ending)?;
     Ok(Bytes::from_vec(line.into_bytes()))
+}
+
+// The status of a check.
+pub fn check_status(ending: &CheckEnding) -> u8
+    ensures { result ≡ check_status ending.now }
+{
+    match ending {
+        CheckEnding::File(why) => file_status(why),
+        CheckEnding::Holds(_) => 0,
+        CheckEnding::Fails(_, _) => 1,
+    }
 }

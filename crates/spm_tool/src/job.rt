@@ -1,25 +1,20 @@
-// The job of a root, and its outcome over a shelf.
-ghost use Rattle.std.specs.Prelude.{◌≡◌, ◌∷◌, IfOk, codes};
-ghost use Rattle.spm_server.specs.RoundTrip.{IsPlainBase};
-ghost use Rattle.spm_session.specs.Outcome.{CanBeTold, IsNoFault};
+// The jobs of the roots: what their files say, and what is asked of them.
+ghost use Rattle.std.specs.Prelude.{◌≡◌, ◌∷◌, [], ℕ, All, IfErr, IfOk, IfSome, List, codes, length, map as map_list, string_bytes};
+ghost use Rattle.spm_session.specs.Outcome.{IsOfFiles};
 ghost use Rattle.spm_session.specs.Run.{IsInput};
-ghost use Rattle.spm_session.specs.declared.job.RootInput.TheVariants as input;
-ghost use Rattle.spm_tool.specs.Ending.{asked_of, job_of, others_of};
-ghost use Rattle.spm_tool.specs.Shelf.{IsBookOf, IsShelfOutcome};
+ghost use Rattle.spm_session.specs.declared.job.RootJob.{RootJob};
+ghost use Rattle.spm_tool.specs.Files.{asked_of, others_of};
+ghost use Rattle.spm_tool.specs.Jobs.{AreJobsOf, IsJobOf, IsReady, ReadsRoot, faulty_in_job, faulty_inputs};
+ghost use Rattle.spm_tool.specs.Left.{FaultsLeft, faulty_in};
 ghost use Rattle.spm_tool.specs.WordsView.{order_view};
 
-use crate::shelf_link::ShelfLink;
+use crate::files::{get_lock, get_manifest};
 use crate::words::{Order, TraitWords};
-use pub_term::Cause;
-use spm_api::Base;
-use spm_ident::Identity;
-use spm_manifest::Manifest;
-use spm_outside::{Authority, Book};
-use spm_server::book;
-use spm_session::{Outcome, RootInput, RootJob, run_alone};
-use spm_shelf::Shelf;
+use spm_digest::sum;
+use spm_outside::Desk;
+use spm_session::{Outcome, RootInput, RootJob};
 use spm_trait::{TraitEntry, TraitName};
-use spm_version::{Items, NoMemory, Release, Text};
+use spm_version::{Items, NoMemory, Text};
 use std::alloc::Global;
 
 // The trait that stands for those that are on by default. Its name is one, so only memory can be lacking.
@@ -66,120 +61,85 @@ fn asked_of(
     }
 }
 
-// A copy of pins.
-fn pins_copied(
-    alloc: Global,
-    kept: &[(Identity, Release)],
-) -> Result<Items<(Identity, Release)>, NoMemory>
-    ensures { IfOk result (λ pins. pins ≡ kept.now) }
-{
-    let mut pins = Items::new(alloc);
-    for (identity, release) in kept {
-        pins.push((identity.copy(alloc)?, release.copy(alloc)?))?;
-    }
-    Ok(pins)
-}
-
-// What the files of a root say: its manifest, which has this origin, and the pins of its lock file.
-fn input_of(
-    alloc: Global,
-    manifest: &Manifest,
-    origin: &[u8; 32],
-    kept: &Items<(Identity, Release)>,
-) -> Result<RootInput, NoMemory>
-    ensures { IfOk result (λ made. made ≡ input.Ready manifest.now origin.now kept.now) }
-{
-    let manifest = manifest.copy(alloc)?;
-    let pins = pins_copied(alloc, kept.as_slice())?;
-    Ok(RootInput::Ready {
-        manifest,
-        origin: *origin,
-        pins,
-    })
-}
-
-// The job of a root.
-fn job_of(
+// What the files of a root say, with the traits that are asked of it, or why it is refused.
+fn read_root<D: Desk>(
     alloc: Global,
     order: &Order,
-    manifest: &Manifest,
-    origin: &[u8; 32],
-    kept: &Items<(Identity, Release)>,
-) -> Result<RootJob, NoMemory>
-    ensures { IfOk result (λ job. job ≡ job_of (order_view order.now) manifest.now origin.now kept.now) }
+    root: &str,
+    desk: &mut D,
+) -> Result<(RootInput, Items<TraitName>), Outcome>
+    ensures told { IfSome (D.state desk.old).files (λ files. ReadsRoot (order_view order.now) files root.now result) }
+    ensures kind { IfErr result (λ it. IsOfFiles it) }
+    ensures ready { IfOk result (λ found. IsReady found.0) }
+    ensures faults { FaultsLeft (faulty_in result) (D.state desk.old) (D.state desk.new) }
+    ensures files { (D.state desk.new).files ≡ (D.state desk.old).files }
 {
+    let (manifest, bytes) = get_manifest(alloc, order.tools, root, desk)?;
+    let pins = match get_lock(alloc, root, desk)? {
+        Some(pins) => pins,
+        None => Items::new(alloc),
+    };
     let asked = asked_of(alloc, &order.traits, manifest.traits().entries.as_slice())?;
-    let name = Text::from_str(alloc, order.root)?;
-    let input = input_of(alloc, manifest, origin, kept)?;
-    Ok(RootJob {
-        name,
-        input,
-        asked,
-        tools: order.tools,
-    })
+    let origin = sum(bytes.as_slice());
+    let input = RootInput::Ready {
+        manifest,
+        origin,
+        pins,
+    };
+    Ok((input, asked))
 }
 
-// Where the shelf stands for a registry.
-pub fn shelf_base(alloc: Global) -> Result<Base, NoMemory>
-    ensures { IfOk result IsPlainBase }
-{
-    let host = Text::from_str(alloc, "shelf")?;
-    let prefix = Text::from_str(alloc, "")?;
-    Ok(Base {
-        to: Authority { host, port: 80 },
-        prefix,
-    })
-}
-
-// The fixed replies of the shelf.
-pub fn book_of(alloc: Global, shelf: &Shelf, base: &Base) -> Result<Book, NoMemory>
-    requires { IsPlainBase base.now }
-    ensures { IfOk result (λ book. IsBookOf shelf.now base.now book) }
-{
-    book(alloc, shelf, base)
-}
-
-// The outcome of a root over a book of the shelf.
-fn over_book(
+// Gets the job of a root.
+fn get_job<D: Desk>(
     alloc: Global,
     order: &Order,
-    manifest: &Manifest,
-    origin: &[u8; 32],
-    kept: &Items<(Identity, Release)>,
-    shelf: &Shelf,
-    base: &Base,
-    book: &Book,
-) -> Result<Outcome, NoMemory>
-    requires { IsBookOf shelf.now base.now book.now }
-    ensures end { IfOk result (λ it. IsShelfOutcome ⟦<Cause as PartialEq>⟧.eq shelf.now
-        (job_of (order_view order.now) manifest.now origin.now kept.now) it) }
-    ensures told { IfOk result CanBeTold }
-    ensures quiet { IfOk result IsNoFault }
+    root: &str,
+    desk: &mut D,
+) -> Result<RootJob, NoMemory>
+    ensures told { IfSome (D.state desk.old).files (λ files. IfOk result (λ job. IsJobOf (order_view order.now) files root.now job)) }
+    ensures input { IfOk result (λ job. IsInput job.input) }
+    ensures faults { FaultsLeft (faulty_in_job result) (D.state desk.old) (D.state desk.new) }
+    ensures files { (D.state desk.new).files ≡ (D.state desk.old).files }
 {
-    let mut link = ShelfLink::new(alloc, book)?;
-    let job = job_of(alloc, order, manifest, origin, kept)?;
-    Ok(run_alone(alloc, job, base, &mut link))
+    let name = Text::from_str(alloc, root)?;
+    let tools = order.tools;
+    match read_root(alloc, order, root, desk) {
+        Ok((input, asked)) => Ok(RootJob {
+            name,
+            input,
+            asked,
+            tools,
+        }),
+        Err(refusal) => Ok(RootJob {
+            name,
+            input: RootInput::Refused(refusal),
+            asked: Items::new(alloc),
+            tools,
+        }),
+    }
 }
 
-/// The outcome of a root over a shelf: of its manifest, which has this origin, and the pins of its lock file.
+/// Gets the jobs of the roots, one after the other.
 ///
 /// # Errors
 ///
 /// `NoMemory` alone.
-pub fn resolve_root(
+pub fn get_jobs<D: Desk>(
     alloc: Global,
     order: &Order,
-    manifest: &Manifest,
-    origin: &[u8; 32],
-    kept: &Items<(Identity, Release)>,
-    shelf: &Shelf,
-) -> Result<Outcome, NoMemory>
-    ensures end { IfOk result (λ it. IsShelfOutcome ⟦<Cause as PartialEq>⟧.eq shelf.now
-        (job_of (order_view order.now) manifest.now origin.now kept.now) it) }
-    ensures told { IfOk result CanBeTold }
-    ensures quiet { IfOk result IsNoFault }
+    desk: &mut D,
+) -> Result<Items<RootJob>, NoMemory>
+    ensures told { IfSome (D.state desk.old).files
+        (λ files. IfOk result (λ jobs. AreJobsOf (order_view order.now) files (map_list string_bytes order.now.roots.now) jobs)) }
+    ensures each { IfOk result (λ jobs. length jobs ≡ length order.now.roots.now) }
+    ensures inputs { IfOk result (λ jobs. All (λ (job : RootJob). IsInput job.input) jobs) }
+    ensures faults { (names : List (List ℕ)) × FaultsLeft names (D.state desk.old) (D.state desk.new)
+        × IfOk result (λ jobs. names ≡ faulty_inputs jobs) }
+    ensures files { (D.state desk.new).files ≡ (D.state desk.old).files }
 {
-    let base = shelf_base(alloc)?;
-    let book = book_of(alloc, shelf, &base)?;
-    over_book(alloc, order, manifest, origin, kept, shelf, &base, &book)
+    let mut jobs = Items::new(alloc);
+    for root in order.roots {
+        jobs.push(get_job(alloc, order, root.as_str(), desk)?)?;
+    }
+    Ok(jobs)
 }

@@ -1,5 +1,5 @@
 // The command `judge`.
-ghost use Rattle.std.specs.Prelude.{◌≡◌, IfOk, IfSome, None, string_bytes};
+ghost use Rattle.std.specs.Prelude.{◌≡◌, IfOk, IfSome, [], string_bytes};
 ghost use Rattle.spm_tool.specs.Judge.{
   IsFetched,
   IsJudgeEnding,
@@ -13,18 +13,18 @@ ghost use Rattle.spm_tool.specs.Judge.{
   judge_root_line,
   judge_status,
 };
-ghost use Rattle.spm_tool.specs.Left.{FaultLeft};
+ghost use Rattle.spm_tool.specs.Left.{FaultsLeft};
 ghost use Rattle.spm_tool.specs.Shelf.{IsBookOf};
-ghost use Rattle.spm_tool.specs.WordsView.{order_view};
+ghost use Rattle.spm_tool.specs.WordsView.{judgement_view};
 
-use crate::ending::{RootEnding, ShelfEnding};
-use crate::files::{get_lock, get_manifest};
-use crate::job::{book_of, default_name, shelf_base};
-use crate::report::{root_text, shelf_report};
-use crate::shelf::get_any_shelf;
+use crate::ending::FileEnding;
+use crate::files::{get_lock, get_manifest, get_shelf};
+use crate::job::default_name;
+use crate::report::{file_report, outcome_text};
+use crate::run::{book_of, shelf_base};
 use crate::shelf_link::ShelfLink;
-use crate::status::{root_status, shelf_status};
-use crate::words::Order;
+use crate::status::{file_status, outcome_status};
+use crate::words::Judgement;
 use pub_trail::Wide;
 use spm_api::Base;
 use spm_ident::Identity;
@@ -40,9 +40,9 @@ use std::alloc::Global;
 #[derive(Debug, Drop)]
 pub enum JudgeEnding {
     /// There is no shelf to judge with.
-    Shelf(ShelfEnding),
+    Shelf(FileEnding),
     /// A file of the root is missing, faulty or refused, or a reply is.
-    Root(RootEnding),
+    Root(Outcome),
     /// There is no lock file.
     LockMissing,
     /// The pins are a valid selection.
@@ -58,19 +58,19 @@ fn ending_of(judged: Judged) -> JudgeEnding
     match judged {
         Judged::Valid => JudgeEnding::Valid,
         Judged::Invalid(text) => JudgeEnding::Invalid(text),
-        Judged::Refused(key, fault) => { JudgeEnding::Root(RootEnding::Ended(refused(key, fault))) }
-        Judged::TooWide(identity) => JudgeEnding::Root(RootEnding::Ended(Outcome::TooWide(
-            Wide::Versions(identity),
-        ))),
-        Judged::Failed(key) => JudgeEnding::Root(RootEnding::Ended(Outcome::FetchFault(key))),
-        Judged::Memory => JudgeEnding::Root(RootEnding::Ended(Outcome::Memory)),
+        Judged::Refused(key, fault) => JudgeEnding::Root(refused(key, fault)),
+        Judged::TooWide(identity) => {
+            JudgeEnding::Root(Outcome::TooWide(Wide::Versions(identity)))
+        }
+        Judged::Failed(key) => JudgeEnding::Root(Outcome::FetchFault(key)),
+        Judged::Memory => JudgeEnding::Root(Outcome::Memory),
     }
 }
 
 // Judges pins over a book of the shelf.
 fn over_book(
     alloc: Global,
-    order: &Order,
+    order: &Judgement,
     manifest: &Manifest,
     pins: &Items<(Identity, Release)>,
     shelf: &Shelf,
@@ -78,7 +78,7 @@ fn over_book(
     book: &Book,
 ) -> Result<Judged, NoMemory>
     requires { IsBookOf shelf.now base.now book.now }
-    ensures is { IfOk result (λ it. IsJudged shelf.now (order_view order.now) manifest.now pins.now it) }
+    ensures is { IfOk result (λ it. IsJudged shelf.now (judgement_view order.now) manifest.now pins.now it) }
     ensures fetched { IfOk result IsFetched }
 {
     let sorted = pins_in_order(alloc, pins.as_slice())?;
@@ -98,12 +98,12 @@ fn over_book(
 // Judges pins over the shelf.
 fn over_shelf(
     alloc: Global,
-    order: &Order,
+    order: &Judgement,
     manifest: &Manifest,
     pins: &Items<(Identity, Release)>,
     shelf: &Shelf,
 ) -> Result<Judged, NoMemory>
-    ensures is { IfOk result (λ it. IsJudged shelf.now (order_view order.now) manifest.now pins.now it) }
+    ensures is { IfOk result (λ it. IsJudged shelf.now (judgement_view order.now) manifest.now pins.now it) }
     ensures fetched { IfOk result IsFetched }
 {
     let base = shelf_base(alloc)?;
@@ -114,46 +114,46 @@ fn over_shelf(
 // Judges the pins of a root's lock file over the shelf.
 fn judge_pins(
     alloc: Global,
-    order: &Order,
+    order: &Judgement,
     manifest: &Manifest,
     pins: &Items<(Identity, Release)>,
     shelf: &Shelf,
 ) -> JudgeEnding
-    ensures judges { JudgesRoot shelf.now (order_view order.now) manifest.now pins.now result }
-    ensures none { faulty_judged (order_view order.now) result ≡ None }
+    ensures judges { JudgesRoot shelf.now (judgement_view order.now) manifest.now pins.now result }
+    ensures none { faulty_judged (judgement_view order.now) result ≡ [] }
 {
     match over_shelf(alloc, order, manifest, pins, shelf) {
         Ok(judged) => ending_of(judged),
-        Err(NoMemory) => JudgeEnding::Root(RootEnding::Ended(Outcome::Memory)),
+        Err(NoMemory) => JudgeEnding::Root(Outcome::Memory),
     }
 }
 
 // Judges the lock file of the root against the shelf.
-fn judge_root<D: Desk>(alloc: Global, order: &Order, shelf: &Shelf, desk: &mut D) -> JudgeEnding
-    ensures told { IfSome (D.state desk.old).files (λ files. IsRootJudged shelf.now (order_view order.now) files result) }
-    ensures fault { FaultLeft (faulty_judged (order_view order.now) result) (D.state desk.old) (D.state desk.new) }
+fn judge_root<D: Desk>(alloc: Global, order: &Judgement, shelf: &Shelf, desk: &mut D) -> JudgeEnding
+    ensures told { IfSome (D.state desk.old).files (λ files. IsRootJudged shelf.now (judgement_view order.now) files result) }
+    ensures faults { FaultsLeft (faulty_judged (judgement_view order.now) result) (D.state desk.old) (D.state desk.new) }
     ensures files { (D.state desk.new).files ≡ (D.state desk.old).files }
 {
-    let (manifest, _) = match get_manifest(alloc, order, desk) {
+    let (manifest, _) = match get_manifest(alloc, order.tools, order.root, desk) {
         Ok(found) => found,
-        Err(ending) => return JudgeEnding::Root(ending),
+        Err(refusal) => return JudgeEnding::Root(refusal),
     };
     match get_lock(alloc, order.root, desk) {
         Ok(Some(pins)) => judge_pins(alloc, order, &manifest, &pins, shelf),
         Ok(None) => JudgeEnding::LockMissing,
-        Err(ending) => JudgeEnding::Root(ending),
+        Err(refusal) => JudgeEnding::Root(refusal),
     }
 }
 
 /// Judges the lock file of a root against a shelf of the desk.
-pub fn judge_files<D: Desk>(alloc: Global, order: &Order, desk: &mut D) -> JudgeEnding
-    ensures told { IfSome (D.state desk.old).files (λ files. IsJudgeEnding (order_view order.now) files result) }
-    ensures fault { FaultLeft (faulty_judged (order_view order.now) result) (D.state desk.old) (D.state desk.new) }
+pub fn judge_files<D: Desk>(alloc: Global, order: &Judgement, desk: &mut D) -> JudgeEnding
+    ensures told { IfSome (D.state desk.old).files (λ files. IsJudgeEnding (judgement_view order.now) files result) }
+    ensures faults { FaultsLeft (faulty_judged (judgement_view order.now) result) (D.state desk.old) (D.state desk.new) }
     ensures files { (D.state desk.new).files ≡ (D.state desk.old).files }
 {
-    match get_any_shelf(alloc, order.shelf, desk) {
+    match get_shelf(alloc, order.shelf, desk) {
         Ok(shelf) => judge_root(alloc, order, &shelf, desk),
-        Err(ending) => JudgeEnding::Shelf(ending),
+        Err(why) => JudgeEnding::Shelf(why),
     }
 }
 
@@ -165,23 +165,23 @@ fn judge_line(alloc: Global, root: &str, text: &str) -> Result<String, NoMemory>
 }
 
 // The line on a root that isn't judged.
-fn root_line(alloc: Global, root: &str, ending: &RootEnding) -> Result<String, NoMemory>
-    ensures { IfOk result (λ line. string_bytes line ≡ judge_root_line root.now ending.now) }
+fn root_line(alloc: Global, root: &str, refusal: &Outcome) -> Result<String, NoMemory>
+    ensures { IfOk result (λ line. string_bytes line ≡ judge_root_line root.now refusal.now) }
 {
-    if root_status(ending) == 6 {
+    if outcome_status(refusal) == 6 {
         return Ok(String::new(alloc));
     }
-    let text = root_text(alloc, root, ending)?;
+    let text = outcome_text(alloc, refusal)?;
     judge_line(alloc, root, text.as_str())
 }
 
 // The line on a judgement.
-fn line_of(alloc: Global, order: &Order, ending: &JudgeEnding) -> Result<String, NoMemory>
-    ensures { IfOk result (λ line. string_bytes line ≡ judge_report (order_view order.now) ending.now) }
+fn line_of(alloc: Global, order: &Judgement, ending: &JudgeEnding) -> Result<String, NoMemory>
+    ensures { IfOk result (λ line. string_bytes line ≡ judge_report (judgement_view order.now) ending.now) }
 {
     match ending {
-        JudgeEnding::Shelf(ending) => shelf_report(alloc, order.shelf, ending),
-        JudgeEnding::Root(ending) => root_line(alloc, order.root, ending),
+        JudgeEnding::Shelf(why) => file_report(alloc, order.shelf, why),
+        JudgeEnding::Root(refusal) => root_line(alloc, order.root, refusal),
         JudgeEnding::LockMissing => judge_line(alloc, order.root, "Package.resolved is missing"),
         JudgeEnding::Valid => judge_line(alloc, order.root, "valid"),
         JudgeEnding::Invalid(text) => {
@@ -192,8 +192,12 @@ fn line_of(alloc: Global, order: &Order, ending: &JudgeEnding) -> Result<String,
 }
 
 /// The same in bytes.
-pub fn judge_report(alloc: Global, order: &Order, ending: &JudgeEnding) -> Result<Bytes, NoMemory>
-    ensures { IfOk result (λ report. report ≡ judge_report (order_view order.now) ending.now) }
+pub fn judge_report(
+    alloc: Global,
+    order: &Judgement,
+    ending: &JudgeEnding,
+) -> Result<Bytes, NoMemory>
+    ensures { IfOk result (λ report. report ≡ judge_report (judgement_view order.now) ending.now) }
 {
     let line = line_of(alloc, order, ending)?;
     Ok(Bytes::from_vec(line.into_bytes()))
@@ -204,8 +208,8 @@ pub fn judge_status(ending: &JudgeEnding) -> u8
     ensures { result ≡ judge_status ending.now }
 {
     match ending {
-        JudgeEnding::Shelf(ending) => shelf_status(ending),
-        JudgeEnding::Root(ending) => root_status(ending),
+        JudgeEnding::Shelf(why) => file_status(why),
+        JudgeEnding::Root(refusal) => outcome_status(refusal),
         JudgeEnding::LockMissing => 3,
         JudgeEnding::Valid => 0,
         JudgeEnding::Invalid(_) => 1,

@@ -1,68 +1,71 @@
 // The exit statuses.
-ghost use Rattle.std.specs.Prelude.{◌≡◌};
-ghost use Rattle.spm_tool.specs.Check.{check_status};
-ghost use Rattle.spm_tool.specs.Report.{outcome_status, root_status, shelf_status, status_after, status_of};
+ghost use Rattle.std.specs.Prelude.{◌≡◌, ◌==◌};
+ghost use Rattle.std.specs.List.{list_any};
+ghost use Rattle.spm_tool.specs.Report.{file_status, outcome_status, put_status, status_after, status_among};
 
-use crate::check::CheckEnding;
-use crate::ending::{Ending, RootEnding, ShelfEnding};
+use crate::ending::{FileEnding, PutEnding};
 use spm_outside::SinkFault;
 use spm_session::Outcome;
 
 // The status of an outcome: a refusal is 3.
-fn outcome_status(outcome: &Outcome) -> u8
+pub fn outcome_status(outcome: &Outcome) -> u8
     ensures { result ≡ outcome_status outcome.now }
 {
     match outcome {
         Outcome::Resolved { .. } => 0,
         Outcome::Refuted { .. } => 1,
-        Outcome::FetchFault(_) => 4,
+        Outcome::ChecksumDiffers(_, _, _, _) | Outcome::TrustDiffers(_, _, _, _) => 5,
+        Outcome::FetchFault(_) | Outcome::DeskFault(_) => 4,
         Outcome::Memory => 6,
         _ => 3,
     }
 }
 
-// The status of a root.
-pub fn root_status(ending: &RootEnding) -> u8
-    ensures { result ≡ root_status ending.now }
+// The status of a put.
+pub fn put_status(put: PutEnding) -> u8
+    ensures { result ≡ put_status put }
 {
-    match ending {
-        RootEnding::Resolved(_, _, _) => 0,
-        RootEnding::Fault(_) => 4,
-        RootEnding::Ended(outcome) => outcome_status(outcome),
+    match put {
+        PutEnding::Nothing | PutEnding::Done => 0,
+        PutEnding::Failed => 4,
+        PutEnding::Memory => 6,
     }
 }
 
-// The status of a run without a shelf.
-pub fn shelf_status(ending: &ShelfEnding) -> u8
-    ensures { result ≡ shelf_status ending.now }
+// The status of a run without one of the files that it begins with.
+pub fn file_status(why: &FileEnding) -> u8
+    ensures { result ≡ file_status why.now }
 {
-    match ending {
-        ShelfEnding::Fault => 4,
-        ShelfEnding::Memory => 6,
-        ShelfEnding::Missing | ShelfEnding::Unreadable(_, _) | ShelfEnding::NotBuilt => 3,
+    match why {
+        FileEnding::Fault => 4,
+        FileEnding::Memory => 6,
+        FileEnding::Missing | FileEnding::Unreadable(_, _) => 3,
     }
 }
 
-// The status of a run with accepted words.
-pub fn status_of(ending: &Ending) -> u8
-    ensures { result ≡ status_of ending.now }
+// Whether this status is given.
+fn is_given(given: &[u8], status: u8) -> bool
+    ensures { result ≡ list_any (λ one. status == one) given.now }
 {
-    match ending {
-        Ending::Shelf(shelf) => shelf_status(shelf),
-        Ending::Root(root) => root_status(root),
-    }
+    given.contains(&status)
 }
 
-// The status of a check.
-pub fn check_status(ending: &CheckEnding) -> u8
-    ensures { result ≡ check_status ending.now }
+// The first of 6, 4, 5, 3, 1 and 0 that is given.
+pub fn status_among(given: &[u8]) -> u8
+    ensures { result ≡ status_among given.now }
 {
-    match ending {
-        CheckEnding::Holds(_) => 0,
-        CheckEnding::Fails(_, _) => 1,
-        CheckEnding::Missing | CheckEnding::Unreadable(_, _) => 3,
-        CheckEnding::Fault => 4,
-        CheckEnding::Memory => 6,
+    if is_given(given, 6) {
+        6
+    } else if is_given(given, 4) {
+        4
+    } else if is_given(given, 5) {
+        5
+    } else if is_given(given, 3) {
+        3
+    } else if is_given(given, 1) {
+        1
+    } else {
+        0
     }
 }
 

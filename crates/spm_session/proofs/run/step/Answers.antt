@@ -27,17 +27,15 @@ returns-in-Went-clause-falls g c =
 pub returns-in-Selected-clause-end : goal.returns-in-Selected-clause-end
 returns-in-Selected-clause-end g c =
     let selects = subst (λ t. Turns t c.args.plain.now c.turn.new.self) c.in-Selected.is c.in_ok-turn.ensures.ok in
-    ends_before _ (g.L.Link.state c.args.link.now).book c.args.base.now c.args.plain.now c.turn.new.self c.resolved.result selects.1
-    (c.resolved.ensures.end (g.L.Link.state c.args.link.now).book c.args.base.now)
-
-pub returns-in-Selected-clause-faults : goal.returns-in-Selected-clause-faults
-returns-in-Selected-clause-faults g c = faults_stay c.resolved.result (g.L.Link.state c.args.link.now).faults c.resolved.ensures.quiet
+    ends_before _ (g.L.Link.state c.args.link.now).book c.args.base.now c.args.trust.now c.args.plain.now c.turn.new.self c.selected.result selects.1
+    c.selected.ensures.end
 
 pub returns-in_ok-refuted-in-Refuted-clause-end : goal.returns-in_ok-refuted-in-Refuted-clause-end
 returns-in_ok-refuted-in-Refuted-clause-end g c =
     let refutes = subst (λ t. Turns t c.args.plain.now c.turn.new.self) c.in-Refuted.is c.in_ok-turn.ensures.ok in
-    ends_before _ (g.L.Link.state c.args.link.now).book c.args.base.now c.args.plain.now c.turn.new.self c.in_ok-refuted-in-Refuted.field-0
-    refutes.4 (c.in_ok-refuted-in-Refuted.ensures.end (g.L.Link.state c.args.link.now).book c.args.base.now)
+    ends_before _ (g.L.Link.state c.args.link.now).book c.args.base.now c.args.trust.now c.args.plain.now c.turn.new.self
+    c.in_ok-refuted-in-Refuted.field-0 refutes.4
+    (c.in_ok-refuted-in-Refuted.ensures.end (g.L.Link.state c.args.link.now).book c.args.base.now c.args.trust.now)
 
 pub returns-in_ok-refuted-in-Refuted-clause-told : goal.returns-in_ok-refuted-in-Refuted-clause-told
 returns-in_ok-refuted-in-Refuted-clause-told g c =

@@ -1,5 +1,5 @@
 use Rattle.std.proofs.Common.{◌≡◌, ◌∷◌, ◌++◌, codes, drop}
-use Rattle.spm_tool.specs.Ending.{others_of}
+use Rattle.spm_tool.specs.Files.{others_of}
 use Rattle.spm_tool.proofs.job.all_of.Given as goal
 
 abbrev pub invariant-loop-entry : goal.invariant-loop-entry
