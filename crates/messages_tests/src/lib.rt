@@ -27,4 +27,6 @@ mod servers;
 #[cfg(test)]
 mod shelves;
 #[cfg(test)]
+mod sockets;
+#[cfg(test)]
 mod support;

@@ -8,6 +8,7 @@ pub mod LoopLemmas
 pub mod SameFactLemmas
 pub mod SameReadLemmas
 pub mod MoreLemmas
+pub mod ComesLemmas
 pub mod GivingLemmas
 pub mod ReadLemmas
 pub mod BroughtLemmas

@@ -26,9 +26,9 @@ use Rattle.pub_plain.specs.Choosing.{Pins, first_that, is_needed, is_ready, is_t
 use Rattle.pub_plain.specs.Invariant.{IsDecidedAt, IsListed, IsOwnerAt, IsPlaced, IsSolver}
 use Rattle.pub_plain.specs.Loading.{is_package, load_at, name_at}
 use Rattle.pub_plain.specs.Plain.{rules_of}
-use Rattle.pub_plain.specs.Stops.{IsAnswered}
+use Rattle.pub_plain.specs.Stops.{IsStill}
 use Rattle.pub_plain.proofs.SameFactLemmas.{IsSameOwner}
-use Rattle.pub_plain.proofs.SameReadLemmas.{LacksNothing, listed_same, loading_same}
+use Rattle.pub_plain.proofs.SameReadLemmas.{StillLacks, listed_same, loading_same}
 
 -- ---- of each name
 
@@ -40,7 +40,7 @@ each_name P names all root number = elim (cases_lt number (length names)) [
 ]
 
 -- lookups that agree on the size of each name make the same list of sizes
-sizes_same : (l m : Lookups) (names : List NodeName) → All (λ name. size_of l name ≡ size_of m name) names → sizes_of l names ≡ sizes_of m names
+pub sizes_same : (l m : Lookups) (names : List NodeName) → All (λ name. size_of l name ≡ size_of m name) names → sizes_of l names ≡ sizes_of m names
 sizes_same l m [] same = refl
 sizes_same l m (name ∷ names) same =
     ap₂ (λ size sizes. size ∷ sizes) (same 0 name (omega arith)) (sizes_same l m names (λ k d below. same (suc k) d (omega (arith, below))))
@@ -56,7 +56,7 @@ module _ (answers more : Answers) (carries : Carries answers more) where
   still_listed (PackageTrait identity name) listed = tt
 
   -- and has the same size
-  listed_size : (name : NodeName) → IsListed answers name → size_of (lookups_by answers) name ≡ size_of (lookups_by more) name
+  pub listed_size : (name : NodeName) → IsListed answers name → size_of (lookups_by answers) name ≡ size_of (lookups_by more) name
   listed_size Root listed = refl
   listed_size (RootTrait name) listed = refl
   listed_size (Package identity) listed = ap (λ (list : List Parts). suc (length list)) (listed_same answers more carries (Some identity) listed)
@@ -270,57 +270,57 @@ named_place pins l names trail number (PackageTrait identity name) next is =
 -- ---- a turn
 
 -- rules that agree on what the turn asks of them
-pub record AreSameRules (rules other : Rules) (state : State) : Type 0 where
-  pub root : LacksNothing (rules.load state root_place) → rules.load state root_place ≡ other.load state root_place
+pub record AreSameRules (more : Answers) (rules other : Rules) (state : State) : Type 0 where
+  pub root : StillLacks more (rules.load state root_place) → rules.load state root_place ≡ other.load state root_place
   pub next : rules.next state ≡ other.next state
-  pub load : (next : Next) → rules.next state ≡ Some next → LacksNothing (rules.load state next.place)
+  pub load : (next : Next) → rules.next state ≡ Some next → StillLacks more (rules.load state next.place)
       → rules.load state next.place ≡ other.load state next.place
 
 -- a turn that needs nothing more comes of a load that lacks nothing
-load_answered : (state : State) (place : Place) (loading : Loading) → IsAnswered (after_load state place loading) → LacksNothing loading
-load_answered state place (Lacks asked) answered = absurd answered
-load_answered state place (Passes wide) answered = tt
-load_answered state place (Brings loaded) answered = tt
+load_answered : (more : Answers) (state : State) (place : Place) (loading : Loading) → IsStill more (after_load state place loading) → StillLacks more loading
+load_answered more state place (Lacks asked) answered = answered
+load_answered more state place (Passes wide) answered = tt
+load_answered more state place (Brings loaded) answered = tt
 
 -- turns by cases are the same where those of the case that applies are
-case_same : (b : Bool) (first second third fourth : Turn) → (IsAnswered first → first ≡ third) → (IsAnswered second → second ≡ fourth)
-    → IsAnswered (cond b first second) → cond b first second ≡ cond b third fourth
-case_same true first second third fourth left right answered = left answered
-case_same false first second third fourth left right answered = right answered
+case_same : (more : Answers) (b : Bool) (first second third fourth : Turn) → (IsStill more first → first ≡ third) → (IsStill more second → second ≡ fourth)
+    → IsStill more (cond b first second) → cond b first second ≡ cond b third fourth
+case_same more true first second third fourth left right answered = left answered
+case_same more false first second third fourth left right answered = right answered
 
 -- the turn where nothing is almost satisfied
-next_turn_same : (rules other : Rules) (state : State) → AreSameRules rules other state → (next : Option Next) → rules.next state ≡ next
-    → IsAnswered (after_next rules state next) → after_next rules state next ≡ after_next other state next
-next_turn_same rules other state same None at answered = refl
-next_turn_same rules other state same (Some next) at answered =
-    case_same (is_loaded state next.place) (decided state next) (after_load state next.place (rules.load state next.place)) (decided state next)
+next_turn_same : (more : Answers) (rules other : Rules) (state : State) → AreSameRules more rules other state → (next : Option Next) → rules.next state ≡ next
+    → IsStill more (after_next rules state next) → after_next rules state next ≡ after_next other state next
+next_turn_same more rules other state same None at answered = refl
+next_turn_same more rules other state same (Some next) at answered =
+    case_same more (is_loaded state next.place) (decided state next) (after_load state next.place (rules.load state next.place)) (decided state next)
     (after_load state next.place (other.load state next.place)) (λ _. refl)
-    (λ loads. ap (after_load state next.place) (same.load next at (load_answered state next.place (rules.load state next.place) loads))) answered
+    (λ loads. ap (after_load state next.place) (same.load next at (load_answered more state next.place (rules.load state next.place) loads))) answered
 
 -- the turn where nothing holds
-forced_turn_same : (rules other : Rules) (state : State) → AreSameRules rules other state → (forced : Option Forced)
-    → IsAnswered (force_or_next rules state forced) → force_or_next rules state forced ≡ force_or_next other state forced
-forced_turn_same rules other state same (Some forced) answered = refl
-forced_turn_same rules other state same None answered =
-    next_turn_same rules other state same (rules.next state) refl answered ∙ ap (after_next other state) same.next
+forced_turn_same : (more : Answers) (rules other : Rules) (state : State) → AreSameRules more rules other state → (forced : Option Forced)
+    → IsStill more (force_or_next rules state forced) → force_or_next rules state forced ≡ force_or_next other state forced
+forced_turn_same more rules other state same (Some forced) answered = refl
+forced_turn_same more rules other state same None answered =
+    next_turn_same more rules other state same (rules.next state) refl answered ∙ ap (after_next other state) same.next
 
 -- the turn where the root is loaded
-conflict_turn_same : (rules other : Rules) (state : State) → AreSameRules rules other state → (number : Option ℕ)
-    → IsAnswered (conflict_or_force rules state number) → conflict_or_force rules state number ≡ conflict_or_force other state number
-conflict_turn_same rules other state same (Some number) answered = refl
-conflict_turn_same rules other state same None answered =
-    forced_turn_same rules other state same (newest_forced state.sizes state.trail 0 state.incompats) answered
+conflict_turn_same : (more : Answers) (rules other : Rules) (state : State) → AreSameRules more rules other state → (number : Option ℕ)
+    → IsStill more (conflict_or_force rules state number) → conflict_or_force rules state number ≡ conflict_or_force other state number
+conflict_turn_same more rules other state same (Some number) answered = refl
+conflict_turn_same more rules other state same None answered =
+    forced_turn_same more rules other state same (newest_forced state.sizes state.trail 0 state.incompats) answered
 
 -- by rules that agree a turn that needs nothing more comes to the same
-turn_same : (rules other : Rules) (state : State) → AreSameRules rules other state → IsAnswered (turn_of rules state)
+turn_same : (more : Answers) (rules other : Rules) (state : State) → AreSameRules more rules other state → IsStill more (turn_of rules state)
     → turn_of rules state ≡ turn_of other state
-turn_same rules other state same answered =
-    case_same (not (is_loaded state root_place)) (after_load state root_place (rules.load state root_place))
+turn_same more rules other state same answered =
+    case_same more (not (is_loaded state root_place)) (after_load state root_place (rules.load state root_place))
     (conflict_or_force rules state (newest_from (holds state.sizes state.trail) 0 state.incompats))
     (after_load state root_place (other.load state root_place))
     (conflict_or_force other state (newest_from (holds state.sizes state.trail) 0 state.incompats))
-    (λ loads. ap (after_load state root_place) (same.root (load_answered state root_place (rules.load state root_place) loads)))
-    (λ others. conflict_turn_same rules other state same (newest_from (holds state.sizes state.trail) 0 state.incompats) others) answered
+    (λ loads. ap (after_load state root_place) (same.root (load_answered more state root_place (rules.load state root_place) loads)))
+    (λ others. conflict_turn_same more rules other state same (newest_from (holds state.sizes state.trail) 0 state.incompats) others) answered
 
 module _ (job : Job) (pins : Pins) (answers more : Answers) (carries : Carries answers more) (state : State) (is : IsSolver answers state) where
   -- the node that is next is the same
@@ -346,7 +346,7 @@ module _ (job : Job) (pins : Pins) (answers more : Answers) (carries : Carries a
   root_listed names rest rooted = subst (λ all. IsListed answers (owner_node (package_of (name_at all 0)))) (sym rooted) tt
 
   -- the rules of a turn agree
-  pub rules_same : AreSameRules (rules_of job pins answers) (rules_of job pins more) state
+  pub rules_same : AreSameRules more (rules_of job pins answers) (rules_of job pins more) state
   rules_same = record {
     root = loading_same answers more carries job state.names (load_at state.names root_place) (root_listed state.names is.rest is.rooted);
     next = next_same (next_node state.names (loaded_facts state.incompats state.origins) state.trail) refl;
@@ -356,6 +356,6 @@ module _ (job : Job) (pins : Pins) (answers more : Answers) (carries : Carries a
   }
 
   -- a turn that needs nothing more comes to the same
-  pub same_turn : IsAnswered (turn_of (rules_of job pins answers) state)
+  pub same_turn : IsStill more (turn_of (rules_of job pins answers) state)
       → turn_of (rules_of job pins more) state ≡ turn_of (rules_of job pins answers) state
-  same_turn answered = sym (turn_same (rules_of job pins answers) (rules_of job pins more) state rules_same answered)
+  same_turn answered = sym (turn_same more (rules_of job pins answers) (rules_of job pins more) state rules_same answered)

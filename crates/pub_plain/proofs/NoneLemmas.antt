@@ -30,7 +30,7 @@ use Rattle.pub_plain.specs.Choosing.{Pins}
 use Rattle.pub_plain.specs.Invariant.{IsSolver}
 use Rattle.pub_plain.specs.Loading.{facts_at, is_loadable, is_there, is_usable_under, load_at, name_at}
 use Rattle.pub_plain.specs.Plain.{plain_after, rules_of}
-use Rattle.pub_plain.specs.Stops.{IsAnswered}
+use Rattle.pub_plain.specs.Stops.{IsStill}
 use Rattle.pub_plain.proofs.BroughtLemmas.{size_named}
 use Rattle.pub_plain.proofs.LoadedLemmas.{AreLoaded, IsOfLoad, loaded_given, run_loaded}
 use Rattle.pub_plain.proofs.MoreLemmas.{same_turn}
@@ -146,7 +146,7 @@ none_valid job pins answers more n state terms first steps selection short small
     let c = catalogue_by more in
     let same : plain_after job pins more n ≡ Went state = run_same job pins answers more n state short small carries went in
     let refutes_too : turn_of (rules_of job pins more) state ≡ Refuted terms first steps
-    = same_turn job pins answers more carries state (run_solver job pins answers n state short went) (subst IsAnswered (sym refutes) tt) ∙ refutes in
+    = same_turn job pins answers more carries state (run_solver job pins answers n state short went) (subst (IsStill more) (sym refutes) tt) ∙ refutes in
     told_of (IsEnabled (world_of job c selection)) state.names
     (λ test tells.
     never_refuted job more state (run_solver job pins more n state small same) (run_loaded job pins more n state small same) selection valid

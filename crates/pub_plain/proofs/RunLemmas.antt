@@ -7,7 +7,7 @@ use Rattle.pub_plain.specs.Answers.{Answers, AreShort, Carries}
 use Rattle.pub_plain.specs.Choosing.{Pins}
 use Rattle.pub_plain.specs.Invariant.{IsSolver}
 use Rattle.pub_plain.specs.Plain.{opening, plain_after, rules_of}
-use Rattle.pub_plain.specs.Stops.{IsAnswered}
+use Rattle.pub_plain.specs.Stops.{IsStill}
 use Rattle.pub_plain.proofs.KeptLemmas.{solver_kept}
 use Rattle.pub_plain.proofs.MoreLemmas.{same_turn}
 use Rattle.pub_plain.proofs.OpeningLemmas.{opening_solver}
@@ -96,5 +96,5 @@ run_same job pins answers more (suc n) state short small carries went =
     let is : IsSolver answers before.state = run_solver job pins answers n before.state short before.went in
     run_step (rules_of job pins more) n (Went opening) before.state
     (run_same job pins answers more n before.state short small carries before.went)
-    ∙ same_turn job pins answers more carries before.state is (subst IsAnswered (sym before.goes) tt)
+    ∙ same_turn job pins answers more carries before.state is (subst (IsStill more) (sym before.goes) tt)
     ∙ before.goes

@@ -1,4 +1,4 @@
--- A load that lacks nothing comes to the same where more is said.
+-- A load that lacks nothing, or what is still lacking, comes to the same where more is said.
 use Rattle.std.proofs.Common.{◌≡◌, ℕ, Bool, true, false, cond, List, [], ◌∷◌, Option, Some, None, refl, sym, ap, ◌∙◌, subst}
 use Rattle.std.proofs.lemmas.Bool.{false≢true}
 use Rattle.pub_facts.specs.Catalogue.{Job, Lookups, Owner, contents_at, package_of_target, version_in}
@@ -23,11 +23,11 @@ use Rattle.pub_plain.specs.Invariant.{IsListed}
 use Rattle.pub_plain.specs.Loading.{brings, loading, loading_at, read_contents, read_list, read_manifest, read_needs, read_target, read_under, with_list, with_lookup, with_manifest}
 use Rattle.pub_plain.proofs.SameFactLemmas.{AreSameNeeds, IsSameBehind, IsSameNeed, IsSameOwner, IsSameUnder, brings_same, contents_same, version_same}
 
--- the load lacks nothing
-abbrev pub LacksNothing : Loading → Type 0
-LacksNothing (Lacks asked) = ⊥
-LacksNothing (Passes wide) = Unit {0}
-LacksNothing (Brings loaded) = Unit {0}
+-- the load lacks nothing, or a key of which nothing is said by these answers either
+abbrev pub StillLacks : Answers → Loading → Type 0
+StillLacks more (Lacks asked) = more asked ≡ None
+StillLacks more (Passes wide) = Unit {0}
+StillLacks more (Brings loaded) = Unit {0}
 
 -- the package of a target is the same, and so is its list
 pub record IsSameTarget (l m : Lookups) (target : Target) : Type 0 where
@@ -47,20 +47,20 @@ module _ (answers more : Answers) (carries : Carries answers more) where
   -- ---- what is read: it comes to the same where what comes after it does
 
   -- a list
-  list_reads : (identity : List ℕ) (after other : Loading) → LacksNothing (read_list answers identity after)
-      → (answers (key.List identity) ≡ more (key.List identity) → LacksNothing after → after ≡ other)
+  list_reads : (identity : List ℕ) (after other : Loading) → StillLacks more (read_list answers identity after)
+      → (answers (key.List identity) ≡ more (key.List identity) → StillLacks more after → after ≡ other)
       → read_list answers identity after ≡ read_list more identity other
   list_reads identity after other told same = go (answers (key.List identity)) refl told
     where
-      read : (it : Said) → answers (key.List identity) ≡ Some it → LacksNothing after → with_list identity (Some it) other ≡ other
+      read : (it : Said) → answers (key.List identity) ≡ Some it → StillLacks more after → with_list identity (Some it) other ≡ other
           → after ≡ with_list identity (more (key.List identity)) other
       read it at told is =
           same (given_same (key.List identity) it at) told
           ∙ (sym is ∙ ap (λ found. with_list identity found other) (sym (carries (key.List identity) it at)))
 
-      go : (found : Option Said) → answers (key.List identity) ≡ found → LacksNothing (with_list identity found after)
+      go : (found : Option Said) → answers (key.List identity) ≡ found → StillLacks more (with_list identity found after)
           → with_list identity found after ≡ with_list identity (more (key.List identity)) other
-      go None at told = absurd told
+      go None at told = ap (λ found. with_list identity found other) (sym told)
       go (Some said.TooMany) at told = ap (λ found. with_list identity found other) (sym (carries (key.List identity) said.TooMany at))
       go (Some (said.Releases releases)) at told = read (said.Releases releases) at told refl
       go (Some (said.Package found)) at told = read (said.Package found) at told refl
@@ -78,24 +78,24 @@ module _ (answers more : Answers) (carries : Carries answers more) where
   }
 
   -- a look-up, and the list of what it names
-  lookup_reads : (url : List ℕ) (after other : Loading) → LacksNothing (with_lookup answers url (answers (key.Identifiers url)) after)
-      → (IsSameTarget (lookups_by answers) (lookups_by more) (Url url) → LacksNothing after → after ≡ other)
+  lookup_reads : (url : List ℕ) (after other : Loading) → StillLacks more (with_lookup answers url (answers (key.Identifiers url)) after)
+      → (IsSameTarget (lookups_by answers) (lookups_by more) (Url url) → StillLacks more after → after ≡ other)
       → with_lookup answers url (answers (key.Identifiers url)) after ≡ with_lookup more url (more (key.Identifiers url)) other
   lookup_reads url after other told same =
       go (λ identity. list_reads identity after other) (answers (key.Identifiers url)) refl told
     where
-      none : (it : Said) → answers (key.Identifiers url) ≡ Some it → package_in (Some it) ≡ None → LacksNothing after
+      none : (it : Said) → answers (key.Identifiers url) ≡ Some it → package_in (Some it) ≡ None → StillLacks more after
           → with_lookup more url (Some it) other ≡ other → after ≡ with_lookup more url (more (key.Identifiers url)) other
       none it at isnt told is =
           same (none_named url it at isnt) told
           ∙ (sym is ∙ ap (λ found. with_lookup more url found other) (sym (carries (key.Identifiers url) it at)))
 
-      go : ((identity : List ℕ) → LacksNothing (read_list answers identity after)
-          → (answers (key.List identity) ≡ more (key.List identity) → LacksNothing after → after ≡ other)
+      go : ((identity : List ℕ) → StillLacks more (read_list answers identity after)
+          → (answers (key.List identity) ≡ more (key.List identity) → StillLacks more after → after ≡ other)
           → read_list answers identity after ≡ read_list more identity other)
-          → (found : Option Said) → answers (key.Identifiers url) ≡ found → LacksNothing (with_lookup answers url found after)
+          → (found : Option Said) → answers (key.Identifiers url) ≡ found → StillLacks more (with_lookup answers url found after)
           → with_lookup answers url found after ≡ with_lookup more url (more (key.Identifiers url)) other
-      go lists None at told = absurd told
+      go lists None at told = ap (λ found. with_lookup more url found other) (sym told)
       go lists (Some (said.Package (Some identity))) at told =
           lists identity told (λ list told. same (record {
             package_same = ap package_in (given_same (key.Identifiers url) (said.Package (Some identity)) at);
@@ -113,8 +113,8 @@ module _ (answers more : Answers) (carries : Carries answers more) where
       go lists (Some said.Nothing) at told = none said.Nothing at refl told refl
 
   -- the target of a need
-  target_reads : (target : Target) (after other : Loading) → LacksNothing (read_target answers target after)
-      → (IsSameTarget (lookups_by answers) (lookups_by more) target → LacksNothing after → after ≡ other)
+  target_reads : (target : Target) (after other : Loading) → StillLacks more (read_target answers target after)
+      → (IsSameTarget (lookups_by answers) (lookups_by more) target → StillLacks more after → after ≡ other)
       → read_target answers target after ≡ read_target more target other
   target_reads (Registry identity) after other told same = list_reads identity after other told (λ list. same (record {
     package_same = refl;
@@ -127,8 +127,8 @@ module _ (answers more : Answers) (carries : Carries answers more) where
 
   -- a need
   need_reads : (requirement : Requirement) (target : Target) (after other : Loading)
-      → LacksNothing (cond (is_looked_up requirement) (read_target answers target after) after)
-      → (IsSameNeed (lookups_by answers) (lookups_by more) requirement target → LacksNothing after → after ≡ other)
+      → StillLacks more (cond (is_looked_up requirement) (read_target answers target after) after)
+      → (IsSameNeed (lookups_by answers) (lookups_by more) requirement target → StillLacks more after → after ≡ other)
       → cond (is_looked_up requirement) (read_target answers target after) after
       ≡ cond (is_looked_up requirement) (read_target more target other) other
   need_reads (Exact release) target after other told same =
@@ -140,8 +140,8 @@ module _ (answers more : Answers) (carries : Carries answers more) where
   need_reads Path target after other told same = same (record { named = refl; list = λ identity is. cc }) told
 
   -- all needs
-  needs_read : (needs : List Need) (after other : Loading) → LacksNothing (read_needs answers needs after)
-      → (AreSameNeeds (lookups_by answers) (lookups_by more) needs → LacksNothing after → after ≡ other)
+  needs_read : (needs : List Need) (after other : Loading) → StillLacks more (read_needs answers needs after)
+      → (AreSameNeeds (lookups_by answers) (lookups_by more) needs → StillLacks more after → after ≡ other)
       → read_needs answers needs after ≡ read_needs more needs other
   needs_read [] after other told same = same tt told
   needs_read (need ∷ needs) after other told same =
@@ -149,15 +149,15 @@ module _ (answers more : Answers) (carries : Carries answers more) where
       (λ here later. needs_read needs after other later (λ others last. same (here, others) last))
 
   -- what stands behind a manifest
-  under_reads : (contents : Contents) (under : Option (List ℕ)) (after other : Loading) → LacksNothing (read_under answers contents under after)
-      → (IsSameUnder (lookups_by answers) (lookups_by more) contents under → LacksNothing after → after ≡ other)
+  under_reads : (contents : Contents) (under : Option (List ℕ)) (after other : Loading) → StillLacks more (read_under answers contents under after)
+      → (IsSameUnder (lookups_by answers) (lookups_by more) contents under → StillLacks more after → after ≡ other)
       → read_under answers contents under after ≡ read_under more contents under other
   under_reads contents None after other told same = needs_read (load_needs None contents) after other told same
   under_reads contents (Some name) after other told same =
       go (is_declared contents.traits.entries name) told (λ it. same it)
     where
-      go : (b : Bool) → LacksNothing (cond b (read_needs answers (load_needs (Some name) contents) after) after)
-          → ((b ≡ true → AreSameNeeds (lookups_by answers) (lookups_by more) (load_needs (Some name) contents)) → LacksNothing after → after ≡ other)
+      go : (b : Bool) → StillLacks more (cond b (read_needs answers (load_needs (Some name) contents) after) after)
+          → ((b ≡ true → AreSameNeeds (lookups_by answers) (lookups_by more) (load_needs (Some name) contents)) → StillLacks more after → after ≡ other)
           → cond b (read_needs answers (load_needs (Some name) contents) after) after
           ≡ cond b (read_needs more (load_needs (Some name) contents) other) other
       go true told same = needs_read (load_needs (Some name) contents) after other told (λ it. same (λ _. it))
@@ -165,30 +165,30 @@ module _ (answers more : Answers) (carries : Carries answers more) where
 
   -- what stands behind a manifest that can be used
   contents_read : (under : Option (List ℕ)) (contents : Option Contents) (after other : Loading)
-      → LacksNothing (read_contents answers under contents after)
-      → (IsSameBehind (lookups_by answers) (lookups_by more) under contents → LacksNothing after → after ≡ other)
+      → StillLacks more (read_contents answers under contents after)
+      → (IsSameBehind (lookups_by answers) (lookups_by more) under contents → StillLacks more after → after ≡ other)
       → read_contents answers under contents after ≡ read_contents more under contents other
   contents_read under None after other told same = same tt told
   contents_read under (Some contents) after other told same = under_reads contents under after other told same
 
   -- a manifest
-  manifest_reads : (owner : Owner) (version : Option Parts) (after other : Loading) → LacksNothing (read_manifest answers owner version after)
-      → (found_at (catalogue_by answers) owner version ≡ found_at (catalogue_by more) owner version → LacksNothing after → after ≡ other)
+  manifest_reads : (owner : Owner) (version : Option Parts) (after other : Loading) → StillLacks more (read_manifest answers owner version after)
+      → (found_at (catalogue_by answers) owner version ≡ found_at (catalogue_by more) owner version → StillLacks more after → after ≡ other)
       → read_manifest answers owner version after ≡ read_manifest more owner version other
   manifest_reads None version after other told same = same refl told
   manifest_reads (Some identity) None after other told same = same refl told
   manifest_reads (Some identity) (Some release) after other told same = go (answers (key.Manifest identity release)) refl told
     where
-      go : (found : Option Said) → answers (key.Manifest identity release) ≡ found → LacksNothing (with_manifest identity release found after)
+      go : (found : Option Said) → answers (key.Manifest identity release) ≡ found → StillLacks more (with_manifest identity release found after)
           → with_manifest identity release found after ≡ with_manifest identity release (more (key.Manifest identity release)) other
-      go None at told = absurd told
+      go None at told = ap (λ found. with_manifest identity release found other) (sym told)
       go (Some it) at told =
           same (ap found_in (given_same (key.Manifest identity release) it at)) told
           ∙ ap (λ found. with_manifest identity release found other) (sym (carries (key.Manifest identity release) it at))
 
-  -- a load that lacks nothing, of an owner whose list is given, comes to the same
+  -- such a load, of an owner whose list is given, comes to the same
   pub loading_same : (job : Job) (names : List NodeName) (load : Load) → IsListed answers (owner_node load.owner)
-      → LacksNothing (loading job answers names load) → loading job answers names load ≡ loading job more names load
+      → StillLacks more (loading job answers names load) → loading job answers names load ≡ loading job more names load
   loading_same job names load listed told =
       let c = catalogue_by answers in
       let d = catalogue_by more in

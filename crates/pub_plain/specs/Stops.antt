@@ -36,10 +36,10 @@ TurnStops answers (TooWide wide) = IsWide answers wide
 TurnStops answers Selected = Unit {0}
 TurnStops answers (Refuted terms first steps) = Unit {0}
 
--- a turn that needs nothing more
-abbrev pub IsAnswered : Turn → Type 0
-IsAnswered (Went state) = Unit {0}
-IsAnswered (Needs asked) = ⊥
-IsAnswered (TooWide wide) = Unit {0}
-IsAnswered Selected = Unit {0}
-IsAnswered (Refuted terms first steps) = Unit {0}
+-- a turn that needs nothing more, or a key of which nothing is said by these answers either
+abbrev pub IsStill : Answers → Turn → Type 0
+IsStill more (Went state) = Unit {0}
+IsStill more (Needs asked) = more asked ≡ None
+IsStill more (TooWide wide) = Unit {0}
+IsStill more Selected = Unit {0}
+IsStill more (Refuted terms first steps) = Unit {0}

@@ -13,7 +13,7 @@ ghost use Rattle.pub_plain.specs.Invariant.{IsSolver};
 ghost use Rattle.pub_plain.specs.Plain.{opening, plain_after, plain_limits, rules_of};
 ghost use Rattle.pub_plain.specs.Preferred.{AreAscending, IsWider, prefers_by};
 ghost use Rattle.pub_plain.specs.Solver.{Solver, Turns, answers_now, turn_now};
-ghost use Rattle.pub_plain.specs.Stops.{IsAnswered, TurnStops};
+ghost use Rattle.pub_plain.specs.Stops.{IsStill, TurnStops};
 ghost use Rattle.pub_proof.specs.Checked.{checked_of};
 ghost use Rattle.pub_proof.specs.Checks.{own_facts};
 ghost use Rattle.pub_term.specs.declared.cause.Cause.{Cause};
@@ -56,11 +56,12 @@ pub fn the_rules_are_right()
         → turn_of (rules_of job pins answers) state ≡ Went next → IsSolver answers next }
 {}
 
-/// A law, with nothing to run: what is said of more keys changes nothing of a solver, nor of a turn that needs no more.
+/// A law, with nothing to run: what is said of more keys changes nothing of a solver, nor of a turn that needs no more, or a key of which
+/// nothing more is said.
 pub fn more_answers_change_nothing()
     ensures solver { (answers more : Answers) (state : State) → IsSolver answers state → Carries answers more → AreShort more → IsSolver more state }
     ensures turn { (job : Job) (pins : Pins) (answers more : Answers) (state : State) → IsSolver answers state → Carries answers more
-        → IsAnswered (turn_of (rules_of job pins answers) state)
+        → IsStill more (turn_of (rules_of job pins answers) state)
         → turn_of (rules_of job pins more) state ≡ turn_of (rules_of job pins answers) state }
 {}
 

@@ -9,3 +9,4 @@ pub mod ReplyLaws
 pub mod SaidLaws
 pub mod SaidLemmas
 pub mod SlashLemmas
+pub mod RequestLaws

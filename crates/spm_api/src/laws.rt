@@ -2,17 +2,25 @@
 ghost use Rattle.std.specs.Prelude.{◌≡◌, ◌≢◌, ℕ, List, Ok, Option, Result, Some};
 ghost use Rattle.std.specs.List.Sorted.{IsPermutation, IsStrictlySortedBy};
 ghost use Rattle.spm_api.specs.Bodies.{IsLeastIdentity};
-ghost use Rattle.spm_api.specs.Endpoint.{IsReply};
+ghost use Rattle.spm_api.specs.Endpoint.{IsReply, request_for};
 ghost use Rattle.spm_api.specs.Guess.{Guesses};
 ghost use Rattle.spm_api.specs.Refused.{Answers, Refusal};
 ghost use Rattle.spm_api.specs.Said.{ascending, least_identity, said_in};
+ghost use Rattle.spm_api.specs.declared.base.Base.{Base};
 ghost use Rattle.spm_api.specs.declared.replies.Said.{Said};
 ghost use Rattle.spm_api.specs.declared.replies.Said.TheVariants.{TooMany};
 ghost use Rattle.spm_key.specs.Catalogue.{Catalogue, Extends};
+ghost use Rattle.spm_key.specs.Key.{IsKey};
 ghost use Rattle.spm_key.specs.declared.key.Key.{Key};
 ghost use Rattle.spm_key.specs.declared.reply.Reply.{Reply};
 ghost use Rattle.spm_version.specs.Release.{Parts};
 ghost use Rattle.spm_version.specs.ReleaseLaws.{release_cmp};
+
+/// Different keys have different requests, at every base: the requests that a link was opened with tell which keys were asked.
+pub fn different_keys_have_different_requests()
+    ensures { (base : Base) (first second : Key) → IsKey first → IsKey second
+        → request_for base first ≡ request_for base second → first ≡ second }
+{}
 
 /// A response is one reply of a key: a catalogue that comes from a book holds what each fetch from it answers.
 pub fn a_response_is_one_reply()

@@ -5,7 +5,8 @@
 //! the link tells its book, the reply is that of the book's response to the request. Its clause `catalogue` keeps that of all replies
 //! together: a catalogue that comes from a book still does with the reply (`specs/Refused.antt`, which also says which replies a
 //! resolution can't use). [`a_response_is_one_reply`] and [`every_response_is_a_reply`] make such a catalogue one that the book
-//! determines; [`a_lookup_is_one_identity`] and [`a_reply_makes_one_guess`] say the like of what is read and of what is guessed.
+//! determines; [`different_keys_have_different_requests`], so the requests that a link was opened with tell which keys were asked;
+//! [`a_lookup_is_one_identity`] and [`a_reply_makes_one_guess`] say the like of what is read and of what is guessed.
 //!
 //! [`read_list`], [`read_release`], [`read_identifiers`] and [`read_problem`] read the bodies of replies, as far as a resolution needs
 //! them; [`identity_of`] and [`release_of`] read the texts in them. `specs/Bodies.antt` says what a body is read as, by the readings of `spm_json`; `specs/Reads.antt` says what each reader
@@ -42,8 +43,8 @@ pub use endpoint::{fetch, reply_of, request_of};
 pub use guesses::{guess, guess_root, is_looked_up};
 pub use laws::{
     a_catalogue_says_what_it_answers, a_lookup_is_one_identity, a_reply_makes_one_guess,
-    a_response_is_one_reply, a_sorted_list_is_ascending, every_response_is_a_reply,
-    the_least_identity_is_found,
+    a_response_is_one_reply, a_sorted_list_is_ascending, different_keys_have_different_requests,
+    every_response_is_a_reply, the_least_identity_is_found,
 };
 pub use replies::{ReplyFault, Said};
 pub use saying::said;

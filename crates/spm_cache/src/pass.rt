@@ -1,4 +1,7 @@
 //! What a session or a worker has of a cache.
+ghost use Rattle.std.specs.Prelude.{◌≡◌, true};
+ghost use Rattle.spm_turn.specs.Log.{has};
+
 use crate::kept::Kept;
 use spm_turn::Seat;
 use std::marker::Model;
@@ -22,4 +25,13 @@ impl Model for Pass {
     ghost view = { λ p. passing p.seat p.actor };
 
     ghost invariant = { λ p. IsPass p.seat p.actor };
+}
+
+impl Pass {
+    /// A law, with nothing to run: its actor is one of its numbers, so that what the actor does is the pass's own.
+    pub fn has_its_actor(&self)
+        ensures { has self.now.numbers self.now.actor ≡ true }
+    {
+        let _ = &self.seat;
+    }
 }

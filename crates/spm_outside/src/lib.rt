@@ -9,9 +9,10 @@
 //!   (`specs/Faults.antt`), so a program whose count is as it was had no fault. The fault of a call is a
 //!   [`CallFault`], under the name of its trait.
 //! - `MemoryDesk`, `MemorySink` and `BookLink` tell all, and fail at the calls that their maker lists
-//!   (`specs/Schedule.antt`, and `specs/Memory.antt` for what they hold). `FolderDesk` and `StdSink` are the
-//!   system's, and tell nothing.
-//! - `Book` is what registries answer, as fixed replies. `Gate` orders what actors do at once, in a test.
+//!   (`specs/Schedule.antt`, and `specs/Memory.antt` for what they hold). `FolderDesk`, `StdSink`, `WireLink`
+//!   and `TcpDoor` are the system's, and tell nothing.
+//! - `Book` is what registries answer, as fixed replies. `Gate` orders what actors do at once, in a test; `StepGate` holds
+//!   one key until another is done.
 //!
 //! The layer above uses the traits' clauses alone, and states an outcome of the meanings that are told.
 //!
@@ -39,6 +40,9 @@ mod schedule;
 mod shared;
 mod sink;
 mod std_sink;
+mod step_gate;
+mod tcp_door;
+mod wire_link;
 
 pub use crate::book::{Authority, Book, Entry};
 pub use crate::book_link::BookLink;
@@ -55,3 +59,6 @@ pub use crate::memory_sink::MemorySink;
 pub use crate::peer::{Peer, PeerFault};
 pub use crate::sink::{Sink, SinkFault, put_all};
 pub use crate::std_sink::StdSink;
+pub use crate::step_gate::StepGate;
+pub use crate::tcp_door::{TcpDoor, TcpPeer};
+pub use crate::wire_link::WireLink;

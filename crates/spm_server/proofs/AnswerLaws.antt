@@ -25,8 +25,9 @@ use Rattle.spm_server.specs.declared.answering.AnswerParts.{AnswerParts}
 use Rattle.spm_server.specs.RoundTrip.{IsAskable, IsPlainBase, is_printable}
 use Rattle.spm_server.specs.Target.{key_of_target}
 use Rattle.spm_server.specs.declared.problem.Problem.TheVariants.{OtherVersion}
-use Rattle.spm_server.proofs.Classes.{classes, decimal_class}
-use Rattle.spm_server.proofs.Paths.{AsksFor, is_path_byte, path_asks, path_is_text, path_low, target_asks}
+use Rattle.spm_key.proofs.Classes.{classes, decimal_class}
+use Rattle.spm_key.proofs.PathParts.{is_path_byte, path_low}
+use Rattle.spm_server.proofs.Paths.{AsksFor, path_asks, path_is_text, target_asks}
 use Rattle.spm_server.proofs.WrittenRequests.{accepts_json, accepts_zip, is_written_request, request_prints, written_request}
 
 -- ---- one answer

@@ -1,10 +1,8 @@
-pub mod Classes
 pub mod WrittenRequests
 pub mod WrittenResponses
 pub mod Paths
 pub mod AnswerLaws
 pub mod ReplyLaws
-pub mod SameRequest
 pub mod ContentLemmas
 pub mod TargetLemmas
 pub mod RoundTripLaw

@@ -32,7 +32,7 @@ use Rattle.spm_server.specs.RoundTrip.{IsAskable, IsPlainBase}
 use Rattle.spm_server.specs.declared.content.Content.{Content}
 use Rattle.spm_server.proofs.AnswerLaws.{sent_is_answered}
 use Rattle.spm_server.proofs.Paths.{path_asks}
-use Rattle.spm_server.proofs.SameRequest.{same_request}
+use Rattle.spm_api.proofs.RequestLaws.{same_request}
 
 -- what is so of all, and of one more, is so of all with it
 pub pushed : {X : Type 0} (P : X → Type 0) (xs ys : List X) (x : X) → ys ≡ xs ++ x ∷ [] → P x → All P xs → All P ys
@@ -131,8 +131,7 @@ module _ (shelf : ShelfFile) (base : Base) (plain : IsPlainBase base) (other : L
             subst (λ (front : List Entry). Finds shelf base asked (key ∷ keys) other (response_in (front ++ tail) other base.to (request_for base asked))) (sym (entry_served shelf base key serves))
             (elim (cases_Bool (bytes_eq (request_for base key) (request_for base asked))) [
               | inl same ↦
-                  (let matched : key ≡ asked = same_request base key asked plain (All-head IsKey key keys all)
-                  (plain_version key (and_parts (nat_le (length (request_for base key)) 65536) (has_plain_version key) serves).1) is (same_text (request_for base key) (request_for base asked) same) in
+                  (let matched : key ≡ asked = same_request base key asked (All-head IsKey key keys all) is (same_text (request_for base key) (request_for base asked) same) in
                   inl (
                     sym (ap (is_served base) matched) ∙ serves,
                     ap (λ (b : Bool). if b then (entry_of shelf base key).response else response_in tail other base.to (request_for base asked))

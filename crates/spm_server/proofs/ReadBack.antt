@@ -25,8 +25,9 @@ use Rattle.serde_json.proofs.Texts.{print-outline}
 use Rattle.spm_json.specs.Reading.{fault_here, or_fault}
 use Rattle.spm_json.specs.Shape.{document_of}
 use Rattle.spm_version.specs.declared.kind.Kind.TheVariants.{NotJson}
-use Rattle.spm_server.proofs.Classes.{decimal_class}
-use Rattle.spm_server.proofs.Paths.{is_path_byte, path_is_text}
+use Rattle.spm_key.proofs.Classes.{decimal_class}
+use Rattle.spm_key.proofs.PathParts.{is_path_byte}
+use Rattle.spm_server.proofs.Paths.{path_is_text}
 
 -- ---- values that can be written and read
 

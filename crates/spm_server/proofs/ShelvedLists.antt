@@ -29,7 +29,8 @@ use Rattle.spm_shelf.specs.declared.file.ShelfRelease.{ShelfRelease}
 use Rattle.spm_version.specs.Release.{IsValid, Parts, ends_in_zip, parts_text}
 use Rattle.spm_server.specs.Content.{list_data, listed_pair, place_data}
 use Rattle.spm_server.specs.Shelved.{IsTypedRelease, is_usable, usable_in}
-use Rattle.spm_server.proofs.Paths.{name_is_text, scope_is_text, version_back, version_is_text}
+use Rattle.spm_key.proofs.PathParts.{version_back}
+use Rattle.spm_server.proofs.Paths.{name_is_text, scope_is_text, version_is_text}
 use Rattle.spm_server.proofs.ReadBack.{AreMembers, Follow, IsBelow, IsMade, document_made, follow_more, follow_none, join, join_more, join_none, put_last}
 
 -- ---- members in order

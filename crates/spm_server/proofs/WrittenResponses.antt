@@ -16,7 +16,7 @@ use Rattle.spm_http.specs.Response.{HasResponse, Hears, IsHeardIn, body_of_lengt
 use Rattle.spm_http.specs.Writing.{phrase_or_none, response_text}
 use Rattle.spm_http.specs.declared.response_head.Heard.{Heard}
 use Rattle.spm_http.specs.declared.response_head.Heard.TheVariants.{Whole, Garbled, TooLong}
-use Rattle.spm_server.proofs.Classes.{decimal_class, decimal_digits}
+use Rattle.spm_key.proofs.Classes.{decimal_class, decimal_digits}
 use Rattle.spm_server.proofs.WrittenRequests.{field_prints, is_written_field, passes, section_prints, thrice, written_field}
 
 -- the last two fields of a response

@@ -21,7 +21,7 @@
 //! - A response that was written is heard with its status and its body (`proofs/WrittenResponses.antt`, `ReplyLaws.antt`), and a
 //!   response is one reply (`reply_unique` of `spm_api`); so the reply is there (`proofs/RoundTripLaw.antt`).
 //!
-//! The book: two keys with one request are one key (`proofs/SameRequest.antt`), so the first entry with a key's request is that key's
+//! The book: two keys with one request are one key (`different_keys_have_different_requests` of `spm_api`), so the first entry with a key's request is that key's
 //! own; and what the shelf has behind a key is in the list of keys (`known` in `proofs/PagesLemmas.antt`).
 #![tactic(auto)]
 

@@ -8,7 +8,6 @@ use Rattle.spm_api.specs.Refused.{Refusal, garbled, reply_refusal, too_long, unr
 use Rattle.spm_api.specs.Refused.{says as refusal_says}
 use Rattle.spm_api.specs.Said.{Says, reply_said, said_of}
 use Rattle.spm_api.specs.Said as said
-use Rattle.spm_api.specs.declared.base.Base.{Base}
 use Rattle.spm_api.specs.declared.replies.ReplyFault.{ReplyFault}
 use Rattle.spm_api.specs.declared.replies.ReplyFault.TheVariants as fault
 use Rattle.spm_api.specs.declared.replies.Said.{Said}
@@ -17,10 +16,12 @@ use Rattle.spm_key.specs.Catalogue.{Catalogue, Extends}
 use Rattle.spm_key.specs.KeyLaws.{key_cmp, key_equiv, key_ties, key_total}
 use Rattle.spm_key.specs.declared.key.Key.{Key}
 use Rattle.spm_key.specs.declared.reply.Reply.{Reply}
-use Rattle.spm_outside.specs.Book.{Pages}
 use Rattle.spm_session.specs.Archives.{Fingerprints, Pin, Stop, and_then, archive_by, archive_key, checksum_by, ends, looked_at, looked_in, pin_looked, pins_looked, refused_with, release_key, unless_refused, with_sum}
 use Rattle.spm_session.specs.Outcome.{IsNoFault}
-use Rattle.spm_session.specs.Run.{DifferOnlyAt, Finds, FindsErr, IsKeyOf, IsNotFetched, IsOneOf, IsUnanswered, LacksAll, Looks, LooksFrom, StopsAt, refused_by}
+use Rattle.spm_session.specs.Known.{IsFrom, IsWider, Known}
+use Rattle.spm_session.specs.Run.{DifferOnlyAt, Finds, FindsErr, GrowsBy, IsKeyOf, IsNotFetched, IsUnanswered, LacksAll, Looks, LooksFrom, StopsAt, missed_by, refused_by}
+use Rattle.spm_session.specs.declared.source.Missed.{Missed}
+use Rattle.spm_session.specs.declared.source.Missed.TheVariants as missed_for
 use Rattle.spm_session.specs.declared.outcome.Outcome.{Outcome}
 use Rattle.spm_session.specs.declared.outcome.Outcome.TheVariants as outcome
 
@@ -38,6 +39,76 @@ elsewhere c asked reply other differs =
       | inl same ↦ absurd (differs (same_key other asked same))
       | inr apart ↦ cond-false (eq_by_cmp key_cmp other asked) (Some reply) (replies.get c other) apart
     ]
+
+-- what is known still is with a reply that is
+pub from_more : (known : Known) (c : Catalogue) (asked : Key) (reply : Reply) → known asked reply → IsFrom known c
+    → IsFrom known (replies.insert c asked reply)
+from_more known c asked reply has from other =
+    subst (λ found. IfSome found (λ it. known other it)) (sym (replies.get-insert key_total c asked reply other))
+    (elim (cases_Bool (eq_by_cmp key_cmp other asked)) [
+      | inl same ↦
+          subst (λ found. IfSome found (λ it. known other it)) (sym (cond-true (eq_by_cmp key_cmp other asked) (Some reply) (replies.get c other) same))
+          (subst (λ (k : Key). known k reply) (sym (same_key other asked same)) has)
+      | inr apart ↦
+          subst (λ found. IfSome found (λ it. known other it)) (sym (cond-false (eq_by_cmp key_cmp other asked) (Some reply) (replies.get c other) apart))
+          (from other)
+    ])
+
+-- what some are, they are by a wider test
+some_wider : (first second : Reply → Type 0) → ((reply : Reply) → first reply → second reply) → (found : Option Reply)
+    → IfSome found first → IfSome found second
+some_wider first second wider None some = tt
+some_wider first second wider (Some reply) some = wider reply some
+
+-- what is known stays known
+pub from_wider : (first second : Known) → IsWider first second → (c : Catalogue) → IsFrom first c → IsFrom second c
+from_wider first second wider c from asked = some_wider (first asked) (second asked) (wider asked) (replies.get c asked) (from asked)
+
+-- a catalogue grows by a reply that is known
+pub grows_more : (known : Known) (c : Catalogue) (asked : Key) (reply : Reply) → known asked reply → GrowsBy known c (replies.insert c asked reply)
+grows_more known c asked reply has other =
+    elim (cases_Bool (eq_by_cmp key_cmp other asked)) [
+      | inl same ↦
+          inr (subst (λ found. IfSome found (λ it. known other it))
+          (sym (replies.get-insert key_total c asked reply other ∙ cond-true (eq_by_cmp key_cmp other asked) (Some reply) (replies.get c other) same))
+          (subst (λ (k : Key). known k reply) (sym (same_key other asked same)) has))
+      | inr apart ↦
+          inl (replies.get-insert key_total c asked reply other ∙ cond-false (eq_by_cmp key_cmp other asked) (Some reply) (replies.get c other) apart)
+    ]
+
+-- and by more of them
+pub grows_on : (known : Known) (first second third : Catalogue) → GrowsBy known first second → GrowsBy known second third → GrowsBy known first third
+grows_on known first second third early late asked =
+    elim (late asked) [
+      | inl same ↦
+          elim (early asked) [
+            | inl before ↦ inl (same ∙ before)
+            | inr has ↦ inr (subst (λ found. IfSome found (λ reply. known asked reply)) (sym same) has)
+          ]
+      | inr has ↦ inr has
+    ]
+
+-- what it grows by is known, as what it had
+pub grown_from : (known : Known) (c more : Catalogue) → IsFrom known c → GrowsBy known c more → IsFrom known more
+grown_from known c more from grows asked =
+    elim (grows asked) [
+      | inl same ↦ subst (λ found. IfSome found (λ reply. known asked reply)) (sym same) (from asked)
+      | inr has ↦ has
+    ]
+
+pub grows_wider : (first second : Known) → IsWider first second → (c more : Catalogue) → GrowsBy first c more → GrowsBy second c more
+grows_wider first second wider c more grows asked =
+    elim (grows asked) [
+      | inl same ↦ inl same
+      | inr has ↦ inr (some_wider (first asked) (second asked) (wider asked) (replies.get more asked) has)
+    ]
+
+-- a look stays one, whatever else comes to be known
+pub looks_wider : {A : Type 0} (first second : Known) → IsWider first second → (is_there : Key → Type 0) (look : Catalogue → Result A Stop) (result : Result A Outcome)
+    → LooksFrom first is_there look result → LooksFrom second is_there look result
+looks_wider first second wider is_there look result looks c lacks =
+    let it = looks c lacks in
+    record { more = it.more; grows = grows_wider first second wider c it.more it.grows; others = it.others; looks = it.looks }
 
 -- ---- a catalogue that has more
 
@@ -118,6 +189,7 @@ stops_through step keeps (outcome.NoArchive identity release) found stops = ap s
 stops_through step keeps (outcome.ChecksumDiffers identity release said sum) found stops = ap step stops ∙ keeps _
 stops_through step keeps (outcome.TrustDiffers identity release kept said) found stops = ap step stops ∙ keeps _
 stops_through step keeps (outcome.FetchFault asked) found stops = ap step stops ∙ keeps _
+stops_through step keeps (outcome.Cancelled by) found stops = tt
 stops_through step keeps (outcome.DeskFault name) found stops = ap step stops ∙ keeps _
 stops_through step keeps outcome.Memory found stops = tt
 
@@ -139,32 +211,32 @@ stops_by asked (outcome.NoArchive identity release) found finds quiet = ap (unle
 stops_by asked (outcome.ChecksumDiffers identity release said sum) found finds quiet = ap (unless_refused asked None) finds
 stops_by asked (outcome.TrustDiffers identity release kept said) found finds quiet = ap (unless_refused asked None) finds
 stops_by asked (outcome.FetchFault other) found finds quiet = absurd quiet
+stops_by asked (outcome.Cancelled by) found finds quiet = absurd quiet
 stops_by asked (outcome.DeskFault name) found finds quiet = ap (unless_refused asked None) finds
 stops_by asked outcome.Memory found finds quiet = tt
 
 -- ---- one key
 
 -- a key that wasn't fetched
-pub wants : (book : Option Pages) (base : Base) (asked : Key) (it : Outcome) → IsNotFetched asked it → IsUnanswered book base asked it
-wants book base asked it (inl failed) says c from lacks = record {
+pub wants : (known : Known) (asked : Key) (it : Outcome) → IsNotFetched asked it → IsUnanswered known asked it
+wants known asked it missed says c lacks = record {
   more = c;
-  from = from;
+  grows = λ other. inl refl;
   others = λ other differs. refl;
-  looks = subst (λ (o : Outcome). StopsAt o (looked_at c asked says)) (sym failed) (ap (looked_in asked says) (lacks asked refl));
+  looks = subst (λ (o : Outcome). StopsAt o (looked_at c asked says)) (sym missed.1) (by missed.0);
 }
-wants book base asked it (inr memory) says c from lacks = record {
-  more = c;
-  from = from;
-  others = λ other differs. refl;
-  looks = subst (λ (o : Outcome). StopsAt o (looked_at c asked says)) (sym memory) tt;
-}
+  where
+    by : (why : Missed) → StopsAt (missed_by asked why) (looked_at c asked says)
+    by missed_for.Failed = ap (looked_in asked says) (lacks asked refl)
+    by (missed_for.Cancelled who) = tt
+    by missed_for.Memory = tt
 
 -- one whose reply is refused
-pub refuses : (book : Option Pages) (base : Base) (asked : Key) (reply : Reply) (why : ReplyFault) → IsOneOf book base asked reply
-    → Says (Err why) (reply_said asked reply) → IsUnanswered book base asked (refused_by asked why)
-refuses book base asked reply why comes is says c from lacks = record {
+pub refuses : (known : Known) (asked : Key) (reply : Reply) (why : ReplyFault) → known asked reply
+    → Says (Err why) (reply_said asked reply) → IsUnanswered known asked (refused_by asked why)
+refuses known asked reply why has is says c lacks = record {
   more = replies.insert c asked reply;
-  from = comes c from;
+  grows = grows_more known c asked reply has;
   others = elsewhere c asked reply;
   looks = subst (λ found. StopsAt (refused_by asked why) (looked_in asked says found)) (sym (there c asked reply))
       (by (reply_refusal asked reply) why is);
@@ -193,12 +265,12 @@ isnt_refused asked reply it is = go (reply_refusal asked reply) is
     go (Some refusal) is = cc
 
 -- and is read
-pub looks_by : (book : Option Pages) (base : Base) (asked : Key) (reply : Reply) (says : Reply → Result (List ℕ) Outcome)
-    (result : Result (List ℕ) Outcome) → IsOneOf book base asked reply → reply_refusal asked reply ≡ None → Finds result (says reply)
-    → IfErr result (λ it. IsNoFault it) → LooksFrom book base (λ other. other ≡ asked) (λ c. looked_at c asked says) result
-looks_by book base asked reply says result comes fine finds quiet c from lacks = record {
+pub looks_by : (known : Known) (asked : Key) (reply : Reply) (says : Reply → Result (List ℕ) Outcome)
+    (result : Result (List ℕ) Outcome) → known asked reply → reply_refusal asked reply ≡ None → Finds result (says reply)
+    → IfErr result (λ it. IsNoFault it) → LooksFrom known (λ other. other ≡ asked) (λ c. looked_at c asked says) result
+looks_by known asked reply says result has fine finds quiet c lacks = record {
   more = replies.insert c asked reply;
-  from = comes c from;
+  grows = grows_more known c asked reply has;
   others = elsewhere c asked reply;
   looks = subst (λ found. Looks result (looked_in asked says found)) (sym (there c asked reply))
       (subst (λ refusal. Looks result (unless_refused asked refusal (says reply))) (sym fine) (by result finds quiet));
@@ -210,21 +282,21 @@ looks_by book base asked reply says result comes fine finds quiet c from lacks =
     by (Err it) finds quiet = stops_by asked it (says reply) finds quiet
 
 -- want of memory may come at any time
-pub looks_memory : {A : Type 0} (book : Option Pages) (base : Base) (is_there : Key → Type 0) (look : Catalogue → Result A Stop)
-    → LooksFrom book base is_there look (Err outcome.Memory)
-looks_memory book base is_there look c from lacks = record { more = c; from = from; others = λ other differs. refl; looks = tt }
+pub looks_memory : {A : Type 0} (known : Known) (is_there : Key → Type 0) (look : Catalogue → Result A Stop)
+    → LooksFrom known is_there look (Err outcome.Memory)
+looks_memory known is_there look c lacks = record { more = c; grows = λ other. inl refl; others = λ other differs. refl; looks = tt }
 
 -- ---- one pin
 
-module _ (book : Option Pages) (base : Base) (fingerprints : Fingerprints) (pin : Pin) where
+module _ (known : Known) (fingerprints : Fingerprints) (pin : Pin) where
   -- its release stops the look
-  pub pin_stopped : (it : Outcome) → LooksFrom book base (λ other. other ≡ release_key pin) (λ c. looked_at c (release_key pin) (checksum_by pin)) (Err it)
-      → LooksFrom book base (IsKeyOf pin) (λ c. pin_looked fingerprints c pin) (Err it)
-  pin_stopped it first c from lacks =
-      let one = first c from (λ other is. lacks other (inl is)) in
+  pub pin_stopped : (it : Outcome) → LooksFrom known (λ other. other ≡ release_key pin) (λ c. looked_at c (release_key pin) (checksum_by pin)) (Err it)
+      → LooksFrom known (IsKeyOf pin) (λ c. pin_looked fingerprints c pin) (Err it)
+  pin_stopped it first c lacks =
+      let one = first c (λ other is. lacks other (inl is)) in
       record {
         more = one.more;
-        from = one.from;
+        grows = one.grows;
         others = λ other differs. one.others other (λ is. differs (inl is));
         looks = stops_through (λ found. and_then found (λ checksum. looked_at one.more (archive_key pin) (archive_by fingerprints pin checksum)))
             (λ stop. refl) it (looked_at one.more (release_key pin) (checksum_by pin)) one.looks;
@@ -232,17 +304,17 @@ module _ (book : Option Pages) (base : Base) (fingerprints : Fingerprints) (pin 
 
   -- its release names a checksum, and its archive is looked at
   pub pin_looks : (checksum : List ℕ) (result : Result (List ℕ) Outcome)
-      → LooksFrom book base (λ other. other ≡ release_key pin) (λ c. looked_at c (release_key pin) (checksum_by pin)) (Ok checksum)
-      → LooksFrom book base (λ other. other ≡ archive_key pin) (λ c. looked_at c (archive_key pin) (archive_by fingerprints pin checksum)) result
-      → LooksFrom book base (IsKeyOf pin) (λ c. pin_looked fingerprints c pin) result
-  pin_looks checksum result first second c from lacks =
-      let one = first c from (λ other is. lacks other (inl is)) in
+      → LooksFrom known (λ other. other ≡ release_key pin) (λ c. looked_at c (release_key pin) (checksum_by pin)) (Ok checksum)
+      → LooksFrom known (λ other. other ≡ archive_key pin) (λ c. looked_at c (archive_key pin) (archive_by fingerprints pin checksum)) result
+      → LooksFrom known (IsKeyOf pin) (λ c. pin_looked fingerprints c pin) result
+  pin_looks checksum result first second c lacks =
+      let one = first c (λ other is. lacks other (inl is)) in
       let still : LacksAll (λ other. other ≡ archive_key pin) one.more
       = λ other is. one.others other (λ was. let same : archive_key pin ≡ release_key pin = sym is ∙ was in cc) ∙ lacks other (inr is) in
-      let two = second one.more one.from still in
+      let two = second one.more still in
       record {
         more = two.more;
-        from = two.from;
+        grows = grows_on known c one.more two.more one.grows two.grows;
         others = λ other differs. two.others other (λ is. differs (inr is)) ∙ one.others other (λ is. differs (inl is));
         looks = subst (Looks result)
             (sym (ap (λ found. and_then found (λ it. looked_at two.more (archive_key pin) (archive_by fingerprints pin it)))

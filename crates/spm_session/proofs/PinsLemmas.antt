@@ -1,20 +1,19 @@
 -- Looking at the archives of pins, one pin after the other.
-use Rattle.std.proofs.Common.{◌≡◌, ℕ, ◌+◌, ◌<◌, List, [], ◌∷◌, ◌++◌, length, drop, get_or, map, Option, Result, Ok, Err, refl, sym, ap, ◌∙◌, subst, inl, inr, append_assoc, append-nil}
+use Rattle.std.proofs.Common.{◌≡◌, ℕ, ◌+◌, ◌<◌, List, [], ◌∷◌, ◌++◌, length, drop, get_or, map, Result, Ok, Err, refl, sym, ap, ◌∙◌, subst, inl, inr, append_assoc, append-nil}
 use Rattle.std.proofs.lemmas.List.{drop_more}
 use Rattle.std.specs.Cmp.Lexicographic.{nat_list_cmp_total, slice_cmp}
 use Rattle.std.specs.List.{AllByRecursion}
 use Rattle.std.specs.List.Sorted.{IsStrictlySortedBy}
 use Rattle.std.specs.Ordering.{nat_cmp, ordering_reverse}
 use Rattle.std.specs.declared.cmp.Ordering.TheVariants.{Less}
-use Rattle.spm_api.specs.declared.base.Base.{Base}
 use Rattle.spm_key.specs.Catalogue.{Catalogue}
 use Rattle.spm_key.specs.declared.key.Key.{Key}
 use Rattle.spm_key.specs.declared.key.Key.TheVariants as key
-use Rattle.spm_outside.specs.Book.{Pages}
 use Rattle.spm_session.specs.Archives.{Fingerprints, Pin, Stop, and_then, pin_looked, pins_looked, with_sum}
-use Rattle.spm_session.specs.Run.{ArePinsAscending, DifferOnlyAt, IsFrom, IsKeyOf, IsKeyOfAny, LacksAll, LooksFrom, StopsAt}
+use Rattle.spm_session.specs.Known.{IsWider, Known}
+use Rattle.spm_session.specs.Run.{GrowsBy, ArePinsAscending, DifferOnlyAt, IsKeyOf, IsKeyOfAny, LacksAll, LooksFrom, StopsAt}
 use Rattle.spm_session.specs.declared.outcome.Outcome.{Outcome}
-use Rattle.spm_session.proofs.ArchiveLemmas.{extends_lacking, pins_stay, stops_through}
+use Rattle.spm_session.proofs.ArchiveLemmas.{grows_on, grows_wider, extends_lacking, pins_stay, stops_through}
 
 -- ---- what is found of pins behind others
 
@@ -97,59 +96,71 @@ keys_apart pin (other ∷ rest) asked above is (inr later) = keys_apart pin rest
 -- ---- the look, so far
 
 -- from a catalogue without replies of the pins' keys: what is looked at is right, and of what is left nothing was asked
-pub record IsLookedAt (book : Option Pages) (base : Base) (fingerprints : Fingerprints) (all done rest : List Pin) (sums : List (List ℕ))
+pub record IsLookedAt (known : Known) (fingerprints : Fingerprints) (all done rest : List Pin) (sums : List (List ℕ))
     (c : Catalogue) : Type 0 where
   pub more : Catalogue
-  pub from : IsFrom book base more
+  pub grows : GrowsBy known c more
   pub others : DifferOnlyAt (IsKeyOfAny all) more c
   pub lacks : LacksAll (IsKeyOfAny rest) more
   pub right : pins_looked fingerprints more done ≡ Ok sums
 
-pub record IsLooking (book : Option Pages) (base : Base) (fingerprints : Fingerprints) (all rest : List Pin) (sums : List (List ℕ)) : Type 0 where
+pub record IsLooking (known : Known) (fingerprints : Fingerprints) (all rest : List Pin) (sums : List (List ℕ)) : Type 0 where
   pub done : List Pin
   pub split : done ++ rest ≡ all
   pub ascend : ArePinsAscending all → ArePinsAscending rest
-  pub looks : (c : Catalogue) → IsFrom book base c → LacksAll (IsKeyOfAny all) c → ArePinsAscending all
-      → IsLookedAt book base fingerprints all done rest sums c
+  pub looks : (c : Catalogue) → LacksAll (IsKeyOfAny all) c → ArePinsAscending all
+      → IsLookedAt known fingerprints all done rest sums c
+
+-- it stays so, whatever else comes to be known
+pub looking_wider : (first second : Known) → IsWider first second → (fingerprints : Fingerprints) (all rest : List Pin) (sums : List (List ℕ))
+    → IsLooking first fingerprints all rest sums → IsLooking second fingerprints all rest sums
+looking_wider first second wider fingerprints all rest sums so = record {
+  done = so.done;
+  split = so.split;
+  ascend = so.ascend;
+  looks = λ c lacks up.
+      let it = so.looks c lacks up in
+      record { more = it.more; grows = grows_wider first second wider c it.more it.grows; others = it.others; lacks = it.lacks; right = it.right };
+}
 
 -- what is left of the pins at one of them
 pub drop_next : (pins : List Pin) (place : ℕ) (pin : Pin) → place < length pins → pin ≡ get_or pins place pin
     → drop place pins ≡ pin ∷ drop (place + 1) pins
 drop_next pins place pin below is = drop_more pins place pin below ∙ ap (λ first. first ∷ drop (place + 1) pins) (sym is)
 
-module _ (book : Option Pages) (base : Base) (fingerprints : Fingerprints) (all : List Pin) where
+module _ (known : Known) (fingerprints : Fingerprints) (all : List Pin) where
   -- at the first pin
-  pub looking_first : IsLooking book base fingerprints all all []
+  pub looking_first : IsLooking known fingerprints all all []
   looking_first = record {
     done = [];
     split = refl;
     ascend = λ up. up;
-    looks = λ c from lacks up. record { more = c; from = from; others = λ other differs. refl; lacks = lacks; right = refl };
+    looks = λ c lacks up. record { more = c; grows = λ other. inl refl; others = λ other differs. refl; lacks = lacks; right = refl };
   }
 
   -- a pin more
-  pub looking_on : (pin : Pin) (rest : List Pin) (sums : List (List ℕ)) (sum : List ℕ) → IsLooking book base fingerprints all (pin ∷ rest) sums
-      → LooksFrom book base (IsKeyOf pin) (λ c. pin_looked fingerprints c pin) (Ok sum)
-      → IsLooking book base fingerprints all rest (sums ++ sum ∷ [])
+  pub looking_on : (pin : Pin) (rest : List Pin) (sums : List (List ℕ)) (sum : List ℕ) → IsLooking known fingerprints all (pin ∷ rest) sums
+      → LooksFrom known (IsKeyOf pin) (λ c. pin_looked fingerprints c pin) (Ok sum)
+      → IsLooking known fingerprints all rest (sums ++ sum ∷ [])
   unfolding IsStrictlySortedBy
   looking_on pin rest sums sum so pin_looks = record {
     done = so.done ++ pin ∷ [];
     split = append_assoc so.done (pin ∷ []) rest ∙ so.split;
     ascend = λ up. behind (so.ascend up);
-    looks = λ c from lacks up. next c (so.looks c from lacks up) (so.ascend up);
+    looks = λ c lacks up. next c (so.looks c lacks up) (so.ascend up);
   }
     where
       behind : ArePinsAscending (pin ∷ rest) → ArePinsAscending rest
       behind up = up.1
 
-      next : (c : Catalogue) → IsLookedAt book base fingerprints all so.done (pin ∷ rest) sums c → ArePinsAscending (pin ∷ rest)
-          → IsLookedAt book base fingerprints all (so.done ++ pin ∷ []) rest (sums ++ sum ∷ []) c
+      next : (c : Catalogue) → IsLookedAt known fingerprints all so.done (pin ∷ rest) sums c → ArePinsAscending (pin ∷ rest)
+          → IsLookedAt known fingerprints all (so.done ++ pin ∷ []) rest (sums ++ sum ∷ []) c
       next c now up =
           let lacking : LacksAll (IsKeyOf pin) now.more = λ other is. now.lacks other (inl is) in
-          let one = pin_looks now.more now.from lacking in
+          let one = pin_looks now.more lacking in
           record {
             more = one.more;
-            from = one.from;
+            grows = grows_on known c now.more one.more now.grows one.grows;
             others = λ other differs.
                 one.others other (λ is. differs (subst (λ pins. IsKeyOfAny pins other) so.split (key_among so.done pin rest other is)))
                 ∙ now.others other differs;
@@ -160,16 +171,16 @@ module _ (book : Option Pages) (base : Base) (fingerprints : Fingerprints) (all 
           }
 
   -- a pin that stops it
-  pub looking_stops : (pin : Pin) (rest : List Pin) (sums : List (List ℕ)) (it : Outcome) → IsLooking book base fingerprints all (pin ∷ rest) sums
-      → LooksFrom book base (IsKeyOf pin) (λ c. pin_looked fingerprints c pin) (Err it) → ArePinsAscending all
-      → LooksFrom book base (IsKeyOfAny all) (λ c. pins_looked fingerprints c all) (Err it)
-  looking_stops pin rest sums it so pin_looks up c from lacks =
-      let now = so.looks c from lacks up in
+  pub looking_stops : (pin : Pin) (rest : List Pin) (sums : List (List ℕ)) (it : Outcome) → IsLooking known fingerprints all (pin ∷ rest) sums
+      → LooksFrom known (IsKeyOf pin) (λ c. pin_looked fingerprints c pin) (Err it) → ArePinsAscending all
+      → LooksFrom known (IsKeyOfAny all) (λ c. pins_looked fingerprints c all) (Err it)
+  looking_stops pin rest sums it so pin_looks up c lacks =
+      let now = so.looks c lacks up in
       let lacking : LacksAll (IsKeyOf pin) now.more = λ other is. now.lacks other (inl is) in
-      let one = pin_looks now.more now.from lacking in
+      let one = pin_looks now.more lacking in
       record {
         more = one.more;
-        from = one.from;
+        grows = grows_on known c now.more one.more now.grows one.grows;
         others = λ other differs.
             one.others other (λ is. differs (subst (λ pins. IsKeyOfAny pins other) so.split (key_among so.done pin rest other is)))
             ∙ now.others other differs;
@@ -181,13 +192,13 @@ module _ (book : Option Pages) (base : Base) (fingerprints : Fingerprints) (all 
       }
 
   -- behind the last
-  pub looking_ends : (sums : List (List ℕ)) → IsLooking book base fingerprints all [] sums → ArePinsAscending all
-      → LooksFrom book base (IsKeyOfAny all) (λ c. pins_looked fingerprints c all) (Ok sums)
-  looking_ends sums so up c from lacks =
-      let now = so.looks c from lacks up in
+  pub looking_ends : (sums : List (List ℕ)) → IsLooking known fingerprints all [] sums → ArePinsAscending all
+      → LooksFrom known (IsKeyOfAny all) (λ c. pins_looked fingerprints c all) (Ok sums)
+  looking_ends sums so up c lacks =
+      let now = so.looks c lacks up in
       record {
         more = now.more;
-        from = now.from;
+        grows = now.grows;
         others = now.others;
         looks = ap (λ pins. pins_looked fingerprints now.more pins) (sym (sym (append-nil so.done) ∙ so.split)) ∙ now.right;
       }

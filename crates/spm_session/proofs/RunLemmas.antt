@@ -31,11 +31,9 @@ use Rattle.pub_term.specs.declared.cause.Cause.{Cause}
 use Rattle.pub_term.specs.declared.term.Term.{Term}
 use Rattle.pub_trail.specs.Turn.{Step, Turn, Went, Needs, Refuted, turn_of}
 use Rattle.pub_trail.specs.declared.turned.Turned.TheVariants as turned
-use Rattle.spm_api.specs.Endpoint.{IsReply, request_for}
-use Rattle.spm_api.specs.Refused.{ComesFrom, Refusal, garbled, too_long, unreadable}
+use Rattle.spm_api.specs.Refused.{Refusal, garbled, too_long, unreadable}
 use Rattle.spm_api.specs.Refused.{says as refusal_says}
 use Rattle.spm_api.specs.Said.{Says, reply_said, said_in}
-use Rattle.spm_api.specs.declared.base.Base.{Base}
 use Rattle.spm_api.specs.declared.replies.ReplyFault.{ReplyFault}
 use Rattle.spm_api.specs.declared.replies.ReplyFault.TheVariants as fault
 use Rattle.spm_api.specs.declared.replies.Said.{Said}
@@ -46,10 +44,13 @@ use Rattle.spm_key.specs.KeyLaws.{key_cmp, key_eq, key_equiv, key_ties, key_tota
 use Rattle.spm_key.specs.declared.key.Key.{Key}
 use Rattle.spm_key.specs.declared.key.Key.TheVariants as key
 use Rattle.spm_key.specs.declared.reply.Reply.{Reply}
-use Rattle.spm_outside.specs.Book.{Pages, response_of}
 use Rattle.spm_session.specs.Archives.{Fingerprints}
 use Rattle.spm_session.specs.Outcome.{CanBeTold, IsCheckedDerivationThatNoneExists, IsExplained, IsNoFault, IsRefusal, Runs, count_of}
-use Rattle.spm_session.specs.Run.{FaultsBy, IsFrom, IsNotFetched, IsOfArchives, IsReadyEnd, IsRefusedBy, IsRun, IsUnasked, refused_by}
+use Rattle.spm_session.specs.Known.{IsWider, Known}
+use Rattle.spm_session.specs.Run.{IsNotFetched, IsOfArchives, IsPutAs, IsReadyEnd, IsRefusedBy, IsRun, IsUnasked, missed_by, refused_by}
+use Rattle.spm_session.specs.declared.source.Missed.{Missed}
+use Rattle.spm_session.specs.declared.source.Missed.TheVariants as missed_for
+use Rattle.spm_session.proofs.ArchiveLemmas.{from_more, from_wider}
 use Rattle.spm_session.proofs.ArchiveLemmas.{elsewhere}
 use Rattle.spm_session.specs.declared.outcome.Outcome.{Outcome}
 use Rattle.spm_session.specs.declared.outcome.Outcome.TheVariants as outcome
@@ -132,10 +133,10 @@ replies_short c identity list is = go (finite.get c (key.List identity)) is
 -- ---- the run
 
 -- at the opening
-pub run_opens : (book : Option Pages) (base : Base) (job : Job) (pins : Pins) → IsRun book base (opened job pins)
-run_opens book base job pins = record {
+pub run_opens : (known : Known) (job : Job) (pins : Pins) → IsRun known (opened job pins)
+run_opens known job pins = record {
   c = finite.empty;
-  from = from book;
+  from = λ asked. subst (λ found. IfSome found (λ reply. known asked reply)) (sym (none asked)) tt;
   unasked = λ asked of. none asked;
   answers = fun_ext (λ asked. nothing asked ∙ sym (ap (λ found. said_by asked found) (none asked)));
   count = 0;
@@ -146,11 +147,6 @@ run_opens book base job pins = record {
     none : (asked : Key) → finite.get (finite.empty {K = Key} {X = Reply} {R = key_cmp}) asked ≡ None
     none asked = finite.get-empty key_cmp asked
 
-    from : (book : Option Pages) → IsFrom book base finite.empty
-    from None = tt
-    from (Some pages) =
-        λ asked. subst (λ found. IfSome found (λ reply. IsReply asked (response_of pages base.to (request_for base asked)) reply)) (sym (none asked)) tt
-
     nothing : (asked : Key) → answers_now (opened job pins) asked ≡ None
     nothing (key.List identity) = refl
     nothing (key.Manifest identity release) = refl
@@ -159,27 +155,27 @@ run_opens book base job pins = record {
     nothing (key.Identifiers url) = refl
 
 -- its next turn is that of the definition
-pub turn_is : (book : Option Pages) (base : Base) (solver : Solver) → (run : IsRun book base solver)
+pub turn_is : (known : Known) (solver : Solver) → (run : IsRun known solver)
     → turn_of (rules_of solver.job solver.pins (answers_of run.c)) solver.state ≡ turn_now solver
-turn_is book base solver run = ap (λ answers. turn_of (rules_of solver.job solver.pins answers) solver.state) (sym run.answers)
+turn_is known solver run = ap (λ answers. turn_of (rules_of solver.job solver.pins answers) solver.state) (sym run.answers)
 
 -- a last turn ends a run
-abbrev pub runs_to : (book : Option Pages) (base : Base) (solver : Solver) (last : Turn) → (run : IsRun book base solver) → turn_now solver ≡ last
+abbrev pub runs_to : (known : Known) (solver : Solver) (last : Turn) → (run : IsRun known solver) → turn_now solver ≡ last
     → Runs solver.job solver.pins (answers_of run.c) last
-runs_to book base solver last run is =
-    record { turns = run.count; state = solver.state; after = run.after; is = turn_is book base solver run ∙ is }
+runs_to known solver last run is =
+    record { turns = run.count; state = solver.state; after = run.after; is = turn_is known solver run ∙ is }
 
 -- after a turn more
-pub run_turned : (book : Option Pages) (base : Base) (old new : Solver) → Turns turned.Went old new → IsRun book base old → IsRun book base new
-run_turned book base old new went run =
-    subst (IsRun book base) (sym went.2) (record {
+pub run_turned : (known : Known) (old new : Solver) → Turns turned.Went old new → IsRun known old → IsRun known new
+run_turned known old new went run =
+    subst (IsRun known) (sym went.2) (record {
       c = run.c;
       from = run.from;
       unasked = run.unasked;
       answers = run.answers;
       count = suc run.count;
       after = run_step (rules_of old.job old.pins (answers_of run.c)) run.count (Went opening) old.state run.after
-          ∙ turn_is book base old run ∙ went.1;
+          ∙ turn_is known old run ∙ went.1;
       turns = ap counted run.turns ∙ count_more run.count;
     })
   where
@@ -199,10 +195,9 @@ still_unasked c asked reply read unasked other of =
     elsewhere c asked reply other (λ is. read_before asked read (subst IsOfArchives is of)) ∙ unasked other of
 
 -- after a reply that says something
-pub run_given : (book : Option Pages) (base : Base) (asked : Key) (reply : Reply) (old new : Solver) → IsRead asked → answers_now old asked ≡ None
-    → ((c : Catalogue) → IsFrom book base c → IsFrom book base (finite.insert c asked reply)) → IsGiven asked reply old new → IsRun book base old
-    → IsRun book base new
-run_given book base asked reply old new read fresh comes given run =
+pub run_given : (known : Known) (asked : Key) (reply : Reply) (old new : Solver) → IsRead asked → answers_now old asked ≡ None
+    → known asked reply → IsGiven asked reply old new → IsRun known old → IsRun known new
+run_given known asked reply old new read fresh has given run =
     let more = finite.insert run.c asked reply in
     let said = answers_more run.c asked reply given.it given.says in
     let none : answers_of run.c asked ≡ None = ap (λ answers. answers asked) (sym run.answers) ∙ fresh in
@@ -210,7 +205,7 @@ run_given book base asked reply old new read fresh comes given run =
     = carries_more asked given.it (answers_of run.c) (answers_of more) none (λ k. ap (λ answers. answers k) said) in
     record {
       c = more;
-      from = comes run.c run.from;
+      from = from_more known run.c asked reply has run.from;
       unasked = still_unasked run.c asked reply read run.unasked;
       answers = fun_ext given.answers ∙ ap (with_said asked given.it) run.answers ∙ sym said;
       count = run.count;
@@ -229,12 +224,12 @@ needs_what solver asked is =
     subst (TurnStops (answers_now solver)) is (turn_stops solver.job solver.pins (answers_now solver) solver.state)
 
 -- the derivation of a refutation
-pub is_refuted : (same : Cause → Cause → Bool) (book : Option Pages) (base : Base) (fingerprints : Fingerprints) (solver : Solver) (found : Derivation) (texts : List (List (List ℕ)))
-    (turns : ℕ) (terms : List Term) (first : ℕ) (steps : List Step) → IsRun book base solver → turn_now solver ≡ Refuted terms first steps
+pub is_refuted : (same : Cause → Cause → Bool) (known : Known) (fingerprints : Fingerprints) (solver : Solver) (found : Derivation) (texts : List (List (List ℕ)))
+    (turns : ℕ) (terms : List Term) (first : ℕ) (steps : List Step) → IsRun known solver → turn_now solver ≡ Refuted terms first steps
     → found ≡ derivation_in same (lookups_by (answers_now solver)) solver.state first steps
     → texts ≡ choice_texts (lookups_by (answers_now solver)) solver.state.names → turns ≡ solver.turns
-    → IsReadyEnd same book base solver.job fingerprints solver.pins (outcome.Refuted found texts turns)
-is_refuted same book base fingerprints solver found texts turns terms first steps run is found_is texts_are turns_are = record {
+    → IsReadyEnd same known solver.job fingerprints solver.pins (outcome.Refuted found texts turns)
+is_refuted same known fingerprints solver found texts turns terms first steps run is found_is texts_are turns_are = record {
   c = run.c;
   from = run.from;
   is = record {
@@ -257,17 +252,17 @@ is_refuted same book base fingerprints solver found texts turns terms first step
 }
   where
     it : Runs solver.job solver.pins (answers_of run.c) (Refuted terms first steps)
-    it = runs_to book base solver (Refuted terms first steps) run is
+    it = runs_to known solver (Refuted terms first steps) run is
 
     are : found ≡ derivation_in same (lookups_by (answers_of run.c)) solver.state first steps
     are = found_is ∙ ap (λ answers. derivation_in same (lookups_by answers) solver.state first steps) run.answers
 
 -- it can be told
-pub is_told : (same : Cause → Cause → Bool) (book : Option Pages) (base : Base) (solver : Solver) (found : Derivation) (texts : List (List (List ℕ)))
-    (terms : List Term) (first : ℕ) (steps : List Step) → IsRun book base solver → turn_now solver ≡ Refuted terms first steps
+pub is_told : (same : Cause → Cause → Bool) (known : Known) (solver : Solver) (found : Derivation) (texts : List (List (List ℕ)))
+    (terms : List Term) (first : ℕ) (steps : List Step) → IsRun known solver → turn_now solver ≡ Refuted terms first steps
     → found ≡ derivation_in same (lookups_by (answers_now solver)) solver.state first steps
     → texts ≡ choice_texts (lookups_by (answers_now solver)) solver.state.names → IsExplained found texts
-is_told same book base solver found texts terms first steps run is found_is texts_are =
+is_told same known solver found texts terms first steps run is found_is texts_are =
     let l = lookups_by (answers_now solver) in
     let solves : IsSolver (answers_now solver) solver.state
     = run_solver solver.job solver.pins (answers_now solver) run.count solver.state
@@ -279,71 +274,97 @@ is_told same book base solver found texts terms first steps run is found_is text
       texts_are = ap (λ (ts : List (List (List ℕ))). map length ts) texts_are ∙ lengths-choice_texts l solver.state.names;
     })
 
+-- what the solver's refutation is put as is the outcome
+pub put_ends : (same : Cause → Cause → Bool) (known : Known) (fingerprints : Fingerprints) (solver : Solver) (it : Outcome) → IsPutAs same solver it
+    → IsRun known solver → IsReadyEnd same known solver.job fingerprints solver.pins it
+put_ends same known fingerprints solver it so run =
+    subst (IsReadyEnd same known solver.job fingerprints solver.pins) (sym so.put)
+    (is_refuted same known fingerprints solver so.derivation so.texts solver.turns so.terms so.first so.steps run so.is so.derivation_is so.texts_are refl)
+
+-- and can be told
+pub put_told : (same : Cause → Cause → Bool) (known : Known) (solver : Solver) (it : Outcome) → IsPutAs same solver it → IsRun known solver → CanBeTold it
+put_told same known solver it so run =
+    subst CanBeTold (sym so.put) (is_told same known solver so.derivation so.texts so.terms so.first so.steps run so.is so.derivation_is so.texts_are)
+
+-- and is no fault
+pub put_quiet : (same : Cause → Cause → Bool) (solver : Solver) (it : Outcome) → IsPutAs same solver it → IsNoFault it
+put_quiet same solver it so = subst IsNoFault (sym so.put) tt
+
 -- ---- a reply that is given
 
--- what comes from the book still does with its reply
-pub comes_more : (book : Option Pages) (base : Base) (asked : Key) (reply : Reply)
-    → IfSome book (λ pages. (c : Catalogue) → ComesFrom c pages base → ComesFrom (finite.insert c asked reply) pages base) → (c : Catalogue)
-    → IsFrom book base c → IsFrom book base (finite.insert c asked reply)
-comes_more None base asked reply comes c from = tt
-comes_more (Some pages) base asked reply comes c from = comes c from
+-- a run stays one, whatever else comes to be known
+pub run_wider : (first second : Known) → IsWider first second → (solver : Solver) → IsRun first solver → IsRun second solver
+run_wider first second wider solver run = record {
+  c = run.c;
+  from = from_wider first second wider run.c run.from;
+  unasked = run.unasked;
+  answers = run.answers;
+  count = run.count;
+  after = run.after;
+  turns = run.turns;
+}
 
 -- the run goes on
-pub given_on : (book : Option Pages) (base : Base) (asked : Key) (reply : Reply) (old new : Solver) (result : Result ⊤ Outcome)
-    → IsRead asked → answers_now old asked ≡ None → ((c : Catalogue) → IsFrom book base c → IsFrom book base (finite.insert c asked reply))
-    → OnOk result (IsGiven asked reply old new) → OnOk result (IsRun book base old → IsRun book base new)
-given_on book base asked reply old new (Ok done) read fresh comes given = run_given book base asked reply old new read fresh comes given
-given_on book base asked reply old new (Err it) read fresh comes given = tt
+pub given_on : (known : Known) (asked : Key) (reply : Reply) (old new : Solver) (result : Result ⊤ Outcome)
+    → IsRead asked → answers_now old asked ≡ None → known asked reply → OnOk result (IsGiven asked reply old new) → OnOk result (IsRun known old → IsRun known new)
+given_on known asked reply old new (Ok done) read fresh has given = run_given known asked reply old new read fresh has given
+given_on known asked reply old new (Err it) read fresh has given = tt
 
 -- a key that wasn't fetched ends it
-pub unfetched_ends : (same : Cause → Cause → Bool) (book : Option Pages) (base : Base) (fingerprints : Fingerprints) (asked : Key) (old : Solver)
-    (it : Outcome) → turn_now old ≡ Needs asked → IsNotFetched asked it → IsRun book base old
-    → IsReadyEnd same book base old.job fingerprints old.pins it
-unfetched_ends same book base fingerprints asked old it is (inl failed) run =
-    subst (IsReadyEnd same book base old.job fingerprints old.pins) (sym failed)
-    (record { c = run.c; from = run.from; demands = inl (runs_to book base old (Needs asked) run is) })
-unfetched_ends same book base fingerprints asked old it is (inr memory) run =
-    subst (IsReadyEnd same book base old.job fingerprints old.pins) (sym memory) tt
+pub unfetched_ends : (same : Cause → Cause → Bool) (known : Known) (fingerprints : Fingerprints) (asked : Key) (old : Solver)
+    (it : Outcome) → turn_now old ≡ Needs asked → IsNotFetched asked it → IsRun known old
+    → IsReadyEnd same known old.job fingerprints old.pins it
+unfetched_ends same known fingerprints asked old it is missed run =
+    subst (IsReadyEnd same known old.job fingerprints old.pins) (sym missed.1) (by missed.0)
+  where
+    by : (why : Missed) → IsReadyEnd same known old.job fingerprints old.pins (missed_by asked why)
+    by missed_for.Failed = record { c = run.c; from = run.from; demands = inl (runs_to known old (Needs asked) run is) }
+    by (missed_for.Cancelled who) = tt
+    by missed_for.Memory = tt
 
 -- and there is nothing to tell
 pub unfetched_told : (asked : Key) (it : Outcome) → IsNotFetched asked it → CanBeTold it
-unfetched_told asked it (inl failed) = subst CanBeTold (sym failed) tt
-unfetched_told asked it (inr memory) = subst CanBeTold (sym memory) tt
+unfetched_told asked it missed = subst CanBeTold (sym missed.1) (by missed.0)
+  where
+    by : (why : Missed) → CanBeTold (missed_by asked why)
+    by missed_for.Failed = tt
+    by (missed_for.Cancelled who) = tt
+    by missed_for.Memory = tt
 
 -- a reply that is refused ends it
-pub refused_on : (same : Cause → Cause → Bool) (book : Option Pages) (base : Base) (asked : Key) (reply : Reply) (old : Solver)
+pub refused_on : (same : Cause → Cause → Bool) (known : Known) (asked : Key) (reply : Reply) (old : Solver)
     (result : Result ⊤ Outcome) → turn_now old ≡ Needs asked → answers_now old asked ≡ None
-    → ((c : Catalogue) → IsFrom book base c → IsFrom book base (finite.insert c asked reply)) → IfErr result (λ it. IsRefusedBy asked reply it)
-    → IfErr result (λ it. (fingerprints : Fingerprints) → IsRun book base old → IsReadyEnd same book base old.job fingerprints old.pins it)
-refused_on same book base asked reply old (Ok done) is fresh comes refused = tt
-refused_on same book base asked reply old (Err it) is fresh comes refused = λ fingerprints run.
-    subst (IsReadyEnd same book base old.job fingerprints old.pins) (sym refused.is) (by fingerprints run refused.why refused.says)
+    → known asked reply → IfErr result (λ it. IsRefusedBy asked reply it)
+    → IfErr result (λ it. (fingerprints : Fingerprints) → IsRun known old → IsReadyEnd same known old.job fingerprints old.pins it)
+refused_on same known asked reply old (Ok done) is fresh has refused = tt
+refused_on same known asked reply old (Err it) is fresh has refused = λ fingerprints run.
+    subst (IsReadyEnd same known old.job fingerprints old.pins) (sym refused.is) (by fingerprints run refused.why refused.says)
   where
     -- the catalogue with the reply, over which nothing more is said
-    over : (run : IsRun book base old) (reason : Refusal) → reply_said asked reply ≡ Err reason
+    over : (run : IsRun known old) (reason : Refusal) → reply_said asked reply ≡ Err reason
         → IsRefusal old.job old.pins (finite.insert run.c asked reply) asked reason
     over run reason says =
         let none : answers_of run.c asked ≡ None = ap (λ answers. answers asked) (sym run.answers) ∙ fresh in
         record {
           run = subst (λ answers. Runs old.job old.pins answers (Needs asked)) (sym (answers_refused run.c asked reply reason says none))
-              (runs_to book base old (Needs asked) run is);
+              (runs_to known old (Needs asked) run is);
           refused = said_then run.c asked reply ∙ ap (λ found. Some found) says;
         }
 
-    by : (fingerprints : Fingerprints) (run : IsRun book base old) (why : ReplyFault) → Says (Err why) (reply_said asked reply)
-        → IsReadyEnd same book base old.job fingerprints old.pins (refused_by asked why)
-    by fingerprints run fault.Garbled says = record { c = finite.insert run.c asked reply; from = comes run.c run.from; is = inl (over run garbled says) }
-    by fingerprints run fault.TooLong says = record { c = finite.insert run.c asked reply; from = comes run.c run.from; is = inl (over run too_long says) }
-    by fingerprints run fault.Unreadable says = record { c = finite.insert run.c asked reply; from = comes run.c run.from; is = inl (over run unreadable says) }
+    by : (fingerprints : Fingerprints) (run : IsRun known old) (why : ReplyFault) → Says (Err why) (reply_said asked reply)
+        → IsReadyEnd same known old.job fingerprints old.pins (refused_by asked why)
+    by fingerprints run fault.Garbled says = record { c = finite.insert run.c asked reply; from = from_more known run.c asked reply has run.from; is = inl (over run garbled says) }
+    by fingerprints run fault.TooLong says = record { c = finite.insert run.c asked reply; from = from_more known run.c asked reply has run.from; is = inl (over run too_long says) }
+    by fingerprints run fault.Unreadable says = record { c = finite.insert run.c asked reply; from = from_more known run.c asked reply has run.from; is = inl (over run unreadable says) }
     by fingerprints run (fault.Says status detail) says =
-        record { c = finite.insert run.c asked reply; from = comes run.c run.from; is = inl (over run (refusal_says status detail) says) }
+        record { c = finite.insert run.c asked reply; from = from_more known run.c asked reply has run.from; is = inl (over run (refusal_says status detail) says) }
     by fingerprints run fault.Memory says = tt
 
 -- and there is nothing to tell
-pub refused_told : (book : Option Pages) (base : Base) (asked : Key) (reply : Reply) (old : Solver) (result : Result ⊤ Outcome)
-    → IfErr result (λ it. IsRefusedBy asked reply it) → IfErr result (λ it. IsRun book base old → CanBeTold it)
-refused_told book base asked reply old (Ok done) refused = tt
-refused_told book base asked reply old (Err it) refused = λ run. subst CanBeTold (sym refused.is) (by refused.why)
+pub refused_told : (known : Known) (asked : Key) (reply : Reply) (old : Solver) (result : Result ⊤ Outcome)
+    → IfErr result (λ it. IsRefusedBy asked reply it) → IfErr result (λ it. IsRun known old → CanBeTold it)
+refused_told known asked reply old (Ok done) refused = tt
+refused_told known asked reply old (Err it) refused = λ run. subst CanBeTold (sym refused.is) (by refused.why)
   where
     by : (why : ReplyFault) → CanBeTold (refused_by asked why)
     by fault.Garbled = tt
@@ -352,51 +373,30 @@ refused_told book base asked reply old (Err it) refused = λ run. subst CanBeTol
     by (fault.Says status detail) = tt
     by fault.Memory = tt
 
--- where the link didn't fail its count stays
-pub faults_stay : (it : Outcome) (faults : ℕ) → IsNoFault it → FaultsBy it faults faults
-faults_stay (outcome.Resolved pins sums turns) faults quiet = refl
-faults_stay (outcome.Refuted derivation texts turns) faults quiet = refl
-faults_stay outcome.RootMissing faults quiet = refl
-faults_stay (outcome.RootUnreadable place kind) faults quiet = refl
-faults_stay (outcome.RootTooNew needed running) faults quiet = refl
-faults_stay (outcome.ResolvedUnreadable place kind) faults quiet = refl
-faults_stay (outcome.TooWide wide) faults quiet = refl
-faults_stay (outcome.RegistrySays asked status detail) faults quiet = refl
-faults_stay (outcome.Garbled asked) faults quiet = refl
-faults_stay (outcome.TooLong asked) faults quiet = refl
-faults_stay (outcome.ListUnreadable asked) faults quiet = refl
-faults_stay (outcome.ReleaseUnreadable asked) faults quiet = refl
-faults_stay (outcome.NoArchive identity release) faults quiet = refl
-faults_stay (outcome.ChecksumDiffers identity release said found) faults quiet = refl
-faults_stay (outcome.TrustDiffers identity release kept said) faults quiet = refl
-faults_stay (outcome.FetchFault asked) faults quiet = absurd quiet
-faults_stay (outcome.DeskFault name) faults quiet = refl
-faults_stay outcome.Memory faults quiet = refl
-
 -- a turn that changes nothing ends as it would have before it
-pub ends_before : (same : Cause → Cause → Bool) (book : Option Pages) (base : Base) (fingerprints : Fingerprints) (old new : Solver) (it : Outcome) → new ≡ old
-    → (IsRun book base new → IsReadyEnd same book base new.job fingerprints new.pins it) → IsRun book base old
-    → IsReadyEnd same book base old.job fingerprints old.pins it
-ends_before same book base fingerprints old new it is ends =
-    subst (λ (s : Solver). IsRun book base s → IsReadyEnd same book base s.job fingerprints s.pins it) is ends
+pub ends_before : (same : Cause → Cause → Bool) (known : Known) (fingerprints : Fingerprints) (old new : Solver) (it : Outcome) → new ≡ old
+    → (IsRun known new → IsReadyEnd same known new.job fingerprints new.pins it) → IsRun known old
+    → IsReadyEnd same known old.job fingerprints old.pins it
+ends_before same known fingerprints old new it is ends =
+    subst (λ (s : Solver). IsRun known s → IsReadyEnd same known s.job fingerprints s.pins it) is ends
 
 -- ---- the end
 
 -- each state of a run is one of a solver's
-run_is_running : (book : Option Pages) (base : Base) (solver : Solver) → IsRun book base solver → IsRunning (answers_now solver) solver.state
-run_is_running book base solver run =
+run_is_running : (known : Known) (solver : Solver) → IsRun known solver → IsRunning (answers_now solver) solver.state
+run_is_running known solver run =
     run_running solver.job solver.pins (answers_now solver) run.count solver.state (subst AreShort (sym run.answers) (replies_short run.c))
     (ap (λ answers. plain_after solver.job solver.pins answers run.count) run.answers ∙ run.after)
 
 -- a turn leaves less to do
-pub turn_falls : (book : Option Pages) (base : Base) (old new : Solver) → Turns turned.Went old new → IsRun book base old
+pub turn_falls : (known : Known) (old new : Solver) → Turns turned.Went old new → IsRun known old
     → steps_left new < steps_left old
-turn_falls book base old new went run =
-    turned_falls old new (run_is_running book base old run) (subst AreFew (sym run.answers) (answers_few run.c)) went
+turn_falls known old new went run =
+    turned_falls old new (run_is_running known old run) (subst AreFew (sym run.answers) (answers_few run.c)) went
 
 -- and so does a reply that it needs
-pub give_falls : (book : Option Pages) (base : Base) (asked : Key) (reply : Reply) (old new : Solver) (result : Result ⊤ Outcome)
-    → turn_now old ≡ Needs asked → OnOk result (IsGiven asked reply old new) → OnOk result (IsRun book base old → steps_left new < steps_left old)
-give_falls book base asked reply old new (Ok done) needs given = λ run.
-    given_falls asked reply old new (run_is_running book base old run) (subst AreFew (sym run.answers) (answers_few run.c)) needs given
-give_falls book base asked reply old new (Err it) needs given = tt
+pub give_falls : (known : Known) (asked : Key) (reply : Reply) (old new : Solver) (result : Result ⊤ Outcome)
+    → turn_now old ≡ Needs asked → OnOk result (IsGiven asked reply old new) → OnOk result (IsRun known old → steps_left new < steps_left old)
+give_falls known asked reply old new (Ok done) needs given = λ run.
+    given_falls asked reply old new (run_is_running known old run) (subst AreFew (sym run.answers) (answers_few run.c)) needs given
+give_falls known asked reply old new (Err it) needs given = tt

@@ -1,5 +1,5 @@
 -- What a selection comes to, once the archives of its pins were looked at.
-use Rattle.std.proofs.Common.{◌≡◌, ℕ, List, [], ◌∷◌, Bool, Option, Some, None, Result, Ok, Err, sym, ap, ◌∙◌, subst, inl, inr}
+use Rattle.std.proofs.Common.{◌≡◌, ℕ, List, [], ◌∷◌, Bool, Some, None, Result, Ok, Err, sym, ap, ◌∙◌, subst, inl, inr}
 use Rattle.std.proofs.Math.Path.{fun_ext}
 use Rattle.std.specs.Prelude.{option_map}
 use Rattle.pub_plain.specs.Answers.{Carries, answers_of, lookups_by, package_in, releases_in, unless_refused}
@@ -7,7 +7,7 @@ use Rattle.pub_plain.specs.Choosing.{Pins}
 use Rattle.pub_plain.specs.Derivation.{pins_in}
 use Rattle.pub_plain.specs.Plain.{plain_after, rules_of}
 use Rattle.pub_plain.specs.Solver.{Solver, answers_now, turn_now}
-use Rattle.pub_plain.specs.Stops.{IsAnswered}
+use Rattle.pub_plain.specs.Stops.{IsStill}
 use Rattle.pub_plain.proofs.FirstSelection.{selection_first}
 use Rattle.pub_plain.proofs.MoreLemmas.{same_turn}
 use Rattle.pub_plain.proofs.PinLemmas.{solver_pins_ascend}
@@ -16,16 +16,16 @@ use Rattle.pub_plain.proofs.SaidLemmas.{said_ascend}
 use Rattle.pub_term.specs.declared.cause.Cause.{Cause}
 use Rattle.pub_trail.specs.Turn.{Selected, Went, turn_of}
 use Rattle.spm_api.specs.Said.{reply_said}
-use Rattle.spm_api.specs.declared.base.Base.{Base}
 use Rattle.spm_key.specs.Catalogue.{Catalogue}
 use Rattle.spm_key.specs.declared.key.Key.{Key}
 use Rattle.spm_key.specs.declared.key.Key.TheVariants as key
-use Rattle.spm_outside.specs.Book.{Pages}
 use Rattle.spm_session.specs.Archives.{Fingerprints, Pin, pins_looked}
 use Rattle.spm_session.specs.Outcome.{CanBeTold, IsFirstValidSelection, IsSelected}
+use Rattle.spm_session.specs.Known.{Known}
 use Rattle.spm_session.specs.Run.{ArePinsAscending, DifferOnlyAt, IsKeyOfAny, IsOfArchives, IsOfArchivesEnd, IsReadyEnd, IsRun, IsUnasked, LooksFrom, LooksOver}
 use Rattle.spm_session.specs.declared.outcome.Outcome.{Outcome}
 use Rattle.spm_session.specs.declared.outcome.Outcome.TheVariants as outcome
+use Rattle.spm_session.proofs.ArchiveLemmas.{grown_from}
 use Rattle.spm_session.proofs.RunLemmas.{replies_short, runs_to}
 
 -- the keys of pins are of archives
@@ -61,7 +61,7 @@ module _ (c more : Catalogue) (others : DifferOnlyAt IsOfArchives more c) where
       cc
   carries_on unasked (key.Identifiers url) said is = said_same (key.Identifiers url) (λ of. of) ∙ is
 
-module _ (book : Option Pages) (base : Base) (solver : Solver) (found : Pins) (turns : ℕ) (run : IsRun book base solver)
+module _ (known : Known) (solver : Solver) (found : Pins) (turns : ℕ) (run : IsRun known solver)
     (is : turn_now solver ≡ Selected) (pins_are : found ≡ pins_in (lookups_by (answers_now solver)) solver.state) (turns_are : turns ≡ solver.turns) where
   -- the selection stands over a catalogue with other replies of archives
   selected_over : (more : Catalogue) → DifferOnlyAt IsOfArchives more run.c → IsSelected solver.job solver.pins more found turns
@@ -77,7 +77,7 @@ module _ (book : Option Pages) (base : Base) (solver : Solver) (found : Pins) (t
       carries = carries_on run.c more others run.unasked
 
       now : turn_of (rules_of solver.job solver.pins (answers_of run.c)) solver.state ≡ Selected
-      now = (runs_to book base solver Selected run is).is
+      now = (runs_to known solver Selected run is).is
 
       after : plain_after solver.job solver.pins (answers_of more) run.count ≡ Went solver.state
       after = run_same solver.job solver.pins (answers_of run.c) (answers_of more) run.count solver.state (replies_short run.c) (replies_short more)
@@ -87,7 +87,7 @@ module _ (book : Option Pages) (base : Base) (solver : Solver) (found : Pins) (t
       selects =
           same_turn solver.job solver.pins (answers_of run.c) (answers_of more) carries solver.state
           (run_solver solver.job solver.pins (answers_of run.c) run.count solver.state (replies_short run.c) run.after)
-          (subst IsAnswered (sym now) tt)
+          (subst (IsStill (answers_of more)) (sym now) tt)
           ∙ now
 
       are : found ≡ pins_in (lookups_by (answers_of more)) solver.state
@@ -104,73 +104,74 @@ module _ (book : Option Pages) (base : Base) (solver : Solver) (found : Pins) (t
 
   module _ (same : Cause → Cause → Bool) (fingerprints : Fingerprints) where
     -- the look from the replies so far
-    looked : {A : Type 0} (result : Result A Outcome) (look : Catalogue → _) → LooksFrom book base (IsKeyOfAny found) look result
-        → LooksOver book base (IsKeyOfAny found) look run.c result
-    looked result look looks = looks run.c run.from (λ asked among. run.unasked asked (of_archives found asked among))
+    looked : {A : Type 0} (result : Result A Outcome) (look : Catalogue → _) → LooksFrom known (IsKeyOfAny found) look result
+        → LooksOver known (IsKeyOfAny found) look run.c result
+    looked result look looks = looks run.c (λ asked among. run.unasked asked (of_archives found asked among))
 
-    over : {A : Type 0} (result : Result A Outcome) (look : Catalogue → _) → (it : LooksOver book base (IsKeyOfAny found) look run.c result)
+    over : {A : Type 0} (result : Result A Outcome) (look : Catalogue → _) → (it : LooksOver known (IsKeyOfAny found) look run.c result)
         → IsSelected solver.job solver.pins it.more found turns
     over result look it = selected_over it.more (λ asked isnt. it.others asked (λ among. isnt (of_archives found asked among)))
 
     -- all archives are right
-    pub is_resolved : (sums : List (List ℕ)) → LooksFrom book base (IsKeyOfAny found) (λ c. pins_looked fingerprints c found) (Ok sums)
-        → IsReadyEnd same book base solver.job fingerprints solver.pins (outcome.Resolved found sums turns)
+    pub is_resolved : (sums : List (List ℕ)) → LooksFrom known (IsKeyOfAny found) (λ c. pins_looked fingerprints c found) (Ok sums)
+        → IsReadyEnd same known solver.job fingerprints solver.pins (outcome.Resolved found sums turns)
     is_resolved sums looks =
         let it = looked (Ok sums) (λ c. pins_looked fingerprints c found) looks in
-        record { c = it.more; from = it.from; is = record { selected = over (Ok sums) (λ c. pins_looked fingerprints c found) it; right = it.looks } }
+        record { c = it.more; from = grown_from known run.c it.more run.from it.grows; is = record { selected = over (Ok sums) (λ c. pins_looked fingerprints c found) it; right = it.looks } }
 
     -- one of them stops the root
-    pub is_stopped : (it : Outcome) → LooksFrom book base (IsKeyOfAny found) (λ c. pins_looked fingerprints c found) (Err it) → IsOfArchivesEnd it
-        → IsReadyEnd same book base solver.job fingerprints solver.pins it
+    pub is_stopped : (it : Outcome) → LooksFrom known (IsKeyOfAny found) (λ c. pins_looked fingerprints c found) (Err it) → IsOfArchivesEnd it
+        → IsReadyEnd same known solver.job fingerprints solver.pins it
     is_stopped it looks kind = go it (looked (Err it) (λ c. pins_looked fingerprints c found) looks) kind
       where
-        go : (it : Outcome) → LooksOver book base (IsKeyOfAny found) (λ c. pins_looked fingerprints c found) run.c (Err it) → IsOfArchivesEnd it
-            → IsReadyEnd same book base solver.job fingerprints solver.pins it
+        go : (it : Outcome) → LooksOver known (IsKeyOfAny found) (λ c. pins_looked fingerprints c found) run.c (Err it) → IsOfArchivesEnd it
+            → IsReadyEnd same known solver.job fingerprints solver.pins it
         go (outcome.RegistrySays asked status detail) at kind = record {
           c = at.more;
-          from = at.from;
+          from = grown_from known run.c at.more run.from at.grows;
           is = inr (record { found = found; turns = turns; selected = over (Err _) _ at; stops = at.looks });
         }
         go (outcome.Garbled asked) at kind = record {
           c = at.more;
-          from = at.from;
+          from = grown_from known run.c at.more run.from at.grows;
           is = inr (record { found = found; turns = turns; selected = over (Err _) _ at; stops = at.looks });
         }
         go (outcome.TooLong asked) at kind = record {
           c = at.more;
-          from = at.from;
+          from = grown_from known run.c at.more run.from at.grows;
           is = inr (record { found = found; turns = turns; selected = over (Err _) _ at; stops = at.looks });
         }
         go (outcome.ListUnreadable asked) at kind = record {
           c = at.more;
-          from = at.from;
+          from = grown_from known run.c at.more run.from at.grows;
           is = inr (record { found = found; turns = turns; selected = over (Err _) _ at; stops = at.looks });
         }
         go (outcome.ReleaseUnreadable asked) at kind = record {
           c = at.more;
-          from = at.from;
+          from = grown_from known run.c at.more run.from at.grows;
           is = record { found = found; turns = turns; selected = over (Err _) _ at; stops = at.looks };
         }
         go (outcome.NoArchive identity release) at kind = record {
           c = at.more;
-          from = at.from;
+          from = grown_from known run.c at.more run.from at.grows;
           is = record { found = found; turns = turns; selected = over (Err _) _ at; stops = at.looks };
         }
         go (outcome.ChecksumDiffers identity release said sum) at kind = record {
           c = at.more;
-          from = at.from;
+          from = grown_from known run.c at.more run.from at.grows;
           is = record { found = found; turns = turns; selected = over (Err _) _ at; stops = at.looks };
         }
         go (outcome.TrustDiffers identity release kept said) at kind = record {
           c = at.more;
-          from = at.from;
+          from = grown_from known run.c at.more run.from at.grows;
           is = record { found = found; turns = turns; selected = over (Err _) _ at; stops = at.looks };
         }
         go (outcome.FetchFault asked) at kind = record {
           c = at.more;
-          from = at.from;
+          from = grown_from known run.c at.more run.from at.grows;
           demands = inr (record { found = found; turns = turns; selected = over (Err _) _ at; wants = at.looks });
         }
+        go (outcome.Cancelled by) at kind = tt
         go outcome.Memory at kind = tt
         go (outcome.Resolved pins sums number) at kind = absurd kind
         go (outcome.Refuted derivation texts number) at kind = absurd kind
@@ -191,6 +192,7 @@ stopped_told (outcome.RootTooNew needed running) kind = absurd kind
 stopped_told (outcome.ResolvedUnreadable place fault) kind = absurd kind
 stopped_told (outcome.TooWide wide) kind = absurd kind
 stopped_told (outcome.DeskFault name) kind = absurd kind
+stopped_told (outcome.Cancelled by) kind = tt
 stopped_told (outcome.RegistrySays asked status detail) kind = tt
 stopped_told (outcome.Garbled asked) kind = tt
 stopped_told (outcome.TooLong asked) kind = tt

@@ -125,6 +125,7 @@ IsReadyOutcome same job fingerprints pins c (outcome.RootUnreadable place kind) 
 IsReadyOutcome same job fingerprints pins c (outcome.RootTooNew needed running) = ⊥
 IsReadyOutcome same job fingerprints pins c (outcome.ResolvedUnreadable place kind) = ⊥
 IsReadyOutcome same job fingerprints pins c (outcome.FetchFault asked) = ⊥
+IsReadyOutcome same job fingerprints pins c (outcome.Cancelled by) = ⊥
 IsReadyOutcome same job fingerprints pins c (outcome.DeskFault name) = ⊥
 IsReadyOutcome same job fingerprints pins c outcome.Memory = ⊥
 
@@ -148,6 +149,7 @@ IsOfFiles (outcome.NoArchive identity release) = ⊥
 IsOfFiles (outcome.ChecksumDiffers identity release said found) = ⊥
 IsOfFiles (outcome.TrustDiffers identity release kept said) = ⊥
 IsOfFiles (outcome.FetchFault asked) = ⊥
+IsOfFiles (outcome.Cancelled by) = ⊥
 
 -- a derivation that its own facts check, with a text for each choice of each of its nodes
 pub record IsExplained (found : Derivation) (texts : List (List (List ℕ))) : Type 0 where
@@ -160,7 +162,8 @@ abbrev pub CanBeTold : Outcome → Type 0
 CanBeTold (outcome.Refuted derivation texts turns) = IsExplained derivation texts
 CanBeTold other = Unit {0}
 
--- no fault of a link
+-- neither a fault of a link nor another session that gave up
 abbrev pub IsNoFault : Outcome → Type 0
 IsNoFault (outcome.FetchFault asked) = ⊥
+IsNoFault (outcome.Cancelled by) = ⊥
 IsNoFault other = Unit {0}

@@ -1,38 +1,37 @@
 -- A resolution over a link, turn by turn: what it is at each moment, and how it ends.
-use Rattle.std.specs.Prelude.{◌≡◌, ℕ, ◌⊎◌, List, [], ◌∷◌, map, Bool, Option, None, IfSome, Result, Ok, Err}
+use Rattle.std.specs.Prelude.{◌≡◌, ℕ, ◌⊎◌, List, [], ◌∷◌, map, Bool, None, IfSome, Result, Ok, Err}
 use Rattle.std.specs.Cmp.Lexicographic.{slice_cmp}
 use Rattle.std.specs.FinMap as replies
 use Rattle.std.specs.List.Sorted.{IsStrictlySortedBy}
 use Rattle.std.specs.Ordering.{nat_cmp}
 use Rattle.pub_facts.specs.Catalogue.{Job}
-use Rattle.pub_plain.specs.Answers.{answers_of}
+use Rattle.pub_plain.specs.Answers.{answers_of, lookups_by}
 use Rattle.pub_plain.specs.Choosing.{Pins}
+use Rattle.pub_plain.specs.Derivation.{choice_texts, derivation_in}
 use Rattle.pub_plain.specs.Plain.{plain_after}
-use Rattle.pub_plain.specs.Solver.{Solver, answers_now}
+use Rattle.pub_plain.specs.Solver.{Solver, answers_now, turn_now}
+use Rattle.pub_proof.specs.declared.derivation.Derivation.{Derivation}
 use Rattle.pub_term.specs.declared.cause.Cause.{Cause}
-use Rattle.pub_trail.specs.Turn.{Went}
-use Rattle.spm_api.specs.Refused.{ComesFrom}
+use Rattle.pub_term.specs.declared.term.Term.{Term}
+use Rattle.pub_trail.specs.Turn.{Refuted, Step, Went}
 use Rattle.spm_api.specs.Said.{Says, reply_said}
-use Rattle.spm_api.specs.declared.base.Base.{Base}
 use Rattle.spm_api.specs.declared.replies.ReplyFault.{ReplyFault}
 use Rattle.spm_api.specs.declared.replies.ReplyFault.TheVariants as fault
 use Rattle.spm_key.specs.Catalogue.{Catalogue}
 use Rattle.spm_key.specs.declared.key.Key.{Key}
 use Rattle.spm_key.specs.declared.key.Key.TheVariants as key
 use Rattle.spm_key.specs.declared.reply.Reply.{Reply}
-use Rattle.spm_outside.specs.Book.{Pages}
 use Rattle.spm_outside.specs.Faults.{Rises}
+use Rattle.spm_session.specs.Known.{IsFrom, Known}
 use Rattle.spm_session.specs.Archives.{Fingerprints, Pin, Stop, archive_key, ends, looked_at, needs, release_key}
 use Rattle.spm_session.specs.Outcome.{Demands, IsOfFiles, IsReadyOutcome, count_of}
 use Rattle.spm_session.specs.declared.job.RootInput.{RootInput}
 use Rattle.spm_session.specs.declared.job.RootInput.TheVariants as input
 use Rattle.spm_session.specs.declared.job.RootJob.{RootJob}
+use Rattle.spm_session.specs.declared.source.Missed.{Missed}
+use Rattle.spm_session.specs.declared.source.Missed.TheVariants as missed
 use Rattle.spm_session.specs.declared.outcome.Outcome.{Outcome}
 use Rattle.spm_session.specs.declared.outcome.Outcome.TheVariants as outcome
-
--- each reply of the catalogue is the book's, where the link tells its book
-abbrev pub IsFrom : Option Pages → Base → Catalogue → Type 0
-IsFrom book base c = IfSome book (λ pages. ComesFrom c pages base)
 
 -- a key that a resolution reads once it has a selection
 abbrev pub IsOfArchives : Key → Type 0
@@ -47,51 +46,82 @@ abbrev pub IsUnasked : Catalogue → Type 0
 IsUnasked c = (asked : Key) → IsOfArchives asked → replies.get c asked ≡ None
 
 -- the solver has done what a plain resolution over the replies so far does
-pub record IsRun (book : Option Pages) (base : Base) (solver : Solver) : Type 0 where
+pub record IsRun (known : Known) (solver : Solver) : Type 0 where
   pub c : Catalogue
-  pub from : IsFrom book base c
+  pub from : IsFrom known c
   pub unasked : IsUnasked c
   pub answers : answers_now solver ≡ answers_of c
   pub count : ℕ
   pub after : plain_after solver.job solver.pins (answers_of c) count ≡ Went solver.state
   pub turns : solver.turns ≡ count_of count
 
+-- the solver refutes, and this is what it says
+pub record IsPutAs (same : Cause → Cause → Bool) (solver : Solver) (it : Outcome) : Type 0 where
+  pub terms : List Term
+  pub first : ℕ
+  pub steps : List Step
+  pub is : turn_now solver ≡ Refuted terms first steps
+  pub derivation : Derivation
+  pub texts : List (List (List ℕ))
+  pub put : it ≡ outcome.Refuted derivation texts solver.turns
+  pub derivation_is : derivation ≡ derivation_in same (lookups_by (answers_now solver)) solver.state first steps
+  pub texts_are : texts ≡ choice_texts (lookups_by (answers_now solver)) solver.state.names
+
 -- a demanded key that couldn't be fetched
-pub record IsUnfetched (book : Option Pages) (base : Base) (job : Job) (fingerprints : Fingerprints) (pins : Pins) (asked : Key) : Type 0 where
+pub record IsUnfetched (known : Known) (job : Job) (fingerprints : Fingerprints) (pins : Pins) (asked : Key) : Type 0 where
   pub c : Catalogue
-  pub from : IsFrom book base c
+  pub from : IsFrom known c
   pub demands : Demands job fingerprints pins c asked
 
--- the outcome over some catalogue that comes from the book
-pub record IsOver (same : Cause → Cause → Bool) (book : Option Pages) (base : Base) (job : Job) (fingerprints : Fingerprints) (pins : Pins)
+-- the outcome over some catalogue of replies that are known
+pub record IsOver (same : Cause → Cause → Bool) (known : Known) (job : Job) (fingerprints : Fingerprints) (pins : Pins)
     (it : Outcome) : Type 0 where
   pub c : Catalogue
-  pub from : IsFrom book base c
+  pub from : IsFrom known c
   pub is : IsReadyOutcome same job fingerprints pins c it
 
--- how a job that is ready ends: want of memory, a fault of the link at a demanded key, or else the outcome of the definition
-abbrev pub IsReadyEnd : (Cause → Cause → Bool) → Option Pages → Base → Job → Fingerprints → Pins → Outcome → Type 0
-IsReadyEnd same book base job fingerprints pins outcome.Memory = Unit {0}
-IsReadyEnd same book base job fingerprints pins (outcome.FetchFault asked) = IsUnfetched book base job fingerprints pins asked
-IsReadyEnd same book base job fingerprints pins it = IsOver same book base job fingerprints pins it
+-- how a job that is ready ends: want of memory, a key that is demanded and couldn't be fetched, another session that gave up, or else the
+-- outcome of the definition
+abbrev pub IsReadyEnd : (Cause → Cause → Bool) → Known → Job → Fingerprints → Pins → Outcome → Type 0
+IsReadyEnd same known job fingerprints pins outcome.Memory = Unit {0}
+IsReadyEnd same known job fingerprints pins (outcome.FetchFault asked) = IsUnfetched known job fingerprints pins asked
+IsReadyEnd same known job fingerprints pins (outcome.Cancelled by) = Unit {0}
+IsReadyEnd same known job fingerprints pins it = IsOver same known job fingerprints pins it
 
 -- a job that holds a refusal ends with it
-abbrev pub IsEndBy : (Cause → Cause → Bool) → Option Pages → Base → Fingerprints → RootJob → RootInput → Outcome → Type 0
-IsEndBy same book base fingerprints job (input.Refused refusal) it = it ≡ refusal
-IsEndBy same book base fingerprints job (input.Ready manifest origin pins) it =
-    IsReadyEnd same book base (record { root = manifest; asked = job.asked; tools = job.tools }) fingerprints pins it
+abbrev pub IsEndBy : (Cause → Cause → Bool) → Known → Fingerprints → RootJob → RootInput → Outcome → Type 0
+IsEndBy same known fingerprints job (input.Refused refusal) it = it ≡ refusal
+IsEndBy same known fingerprints job (input.Ready manifest origin pins) it =
+    IsReadyEnd same known (record { root = manifest; asked = job.asked; tools = job.tools }) fingerprints pins it
 
-abbrev pub IsEnd : (Cause → Cause → Bool) → Option Pages → Base → Fingerprints → RootJob → Outcome → Type 0
-IsEnd same book base fingerprints job it = IsEndBy same book base fingerprints job job.input it
+abbrev pub IsEnd : (Cause → Cause → Bool) → Known → Fingerprints → RootJob → Outcome → Type 0
+IsEnd same known fingerprints job it = IsEndBy same known fingerprints job job.input it
 
--- the link's count of faults rises where a fetch failed, and stays else
+-- ---- of a source of replies
+
+-- how a source went on to an outcome, by what it does where it goes on, and where it has no reply of a key
+abbrev pub EndsBy : {S : Type 0} → (S → S → Type 0) → (S → S → Key → Missed → Type 0) → S → S → Outcome → Type 0
+EndsBy goes misses old new (outcome.FetchFault asked) = misses old new asked missed.Failed
+EndsBy goes misses old new (outcome.Cancelled by) = (asked : Key) × misses old new asked (missed.Cancelled by)
+EndsBy goes misses old new outcome.Memory = goes old new ⊎ ((asked : Key) × misses old new asked missed.Memory)
+EndsBy goes misses old new it = goes old new
+
+abbrev pub GoesBy : {S A : Type 0} → (S → S → Type 0) → (S → S → Key → Missed → Type 0) → S → S → Result A Outcome → Type 0
+GoesBy goes misses old new (Ok done) = goes old new
+GoesBy goes misses old new (Err it) = EndsBy goes misses old new it
+
+-- a job that holds a refusal asks for nothing
+abbrev pub WentOfJob : {S : Type 0} → (S → S → Type 0) → (S → S → Key → Missed → Type 0) → RootInput → S → S → Outcome → Type 0
+WentOfJob goes misses (input.Refused refusal) old new it = new ≡ old
+WentOfJob goes misses (input.Ready manifest origin pins) old new it = EndsBy goes misses old new it
+
+-- ---- of a link
+
+-- the link's count of faults rises where a fetch failed, and stays else; nobody gives up before
 abbrev pub FaultsBy : Outcome → ℕ → ℕ → Type 0
 FaultsBy (outcome.FetchFault asked) old new = Rises old new
+FaultsBy (outcome.Cancelled by) old new = ⊥
 FaultsBy it old new = new ≡ old
-
-abbrev pub FaultsAfterStep : {A : Type 0} → Result A Outcome → ℕ → ℕ → Type 0
-FaultsAfterStep (Ok done) old new = new ≡ old
-FaultsAfterStep (Err it) old new = FaultsBy it old new
 
 -- a job that holds a refusal touches no link
 abbrev pub FaultsOfJob : RootInput → Outcome → ℕ → ℕ → Type 0
@@ -115,13 +145,14 @@ pub record IsRefusedBy (asked : Key) (reply : Reply) (it : Outcome) : Type 0 whe
 
 -- ---- of a key that is fetched
 
--- it could not be fetched, or memory wasn't there
-abbrev pub IsNotFetched : Key → Outcome → Type 0
-IsNotFetched asked it = (it ≡ outcome.FetchFault asked) ⊎ (it ≡ outcome.Memory)
+-- the outcome of a key without a reply
+abbrev pub missed_by : Key → Missed → Outcome
+missed_by asked missed.Failed = outcome.FetchFault asked
+missed_by asked (missed.Cancelled by) = outcome.Cancelled by
+missed_by asked missed.Memory = outcome.Memory
 
--- the replies from the book are still the book's with this one
-abbrev pub IsOneOf : Option Pages → Base → Key → Reply → Type 0
-IsOneOf book base asked reply = (c : Catalogue) → IsFrom book base c → IsFrom book base (replies.insert c asked reply)
+abbrev pub IsNotFetched : Key → Outcome → Type 0
+IsNotFetched asked it = (why : Missed) × (it ≡ missed_by asked why)
 
 -- ---- of the archives of pins
 
@@ -134,9 +165,10 @@ abbrev pub Finds : Result (List ℕ) Outcome → Result (List ℕ) Outcome → T
 Finds (Ok sum) found = found ≡ Ok sum
 Finds (Err it) found = FindsErr it found
 
--- the look stopped at a key that couldn't be fetched, or at the root's end; or memory wasn't there
+-- the look stopped at a key that couldn't be fetched, or at the root's end; or memory wasn't there, or another session gave up
 abbrev pub StopsAt : {A : Type 0} → Outcome → Result A Stop → Type 0
 StopsAt outcome.Memory found = Unit {0}
+StopsAt (outcome.Cancelled by) found = Unit {0}
 StopsAt (outcome.FetchFault asked) found = found ≡ Err (needs asked)
 StopsAt it found = found ≡ Err (ends it)
 
@@ -149,11 +181,15 @@ Looks (Err it) found = StopsAt it found
 abbrev pub DifferOnlyAt : (Key → Type 0) → Catalogue → Catalogue → Type 0
 DifferOnlyAt is_there more c = (asked : Key) → (is_there asked → ⊥) → replies.get more asked ≡ replies.get c asked
 
--- over a catalogue from the book that has more of these keys, this is what a look comes to
-pub record LooksOver {A : Type 0} (book : Option Pages) (base : Base) (is_there : Key → Type 0) (look : Catalogue → Result A Stop) (c : Catalogue)
+-- where the second catalogue has another reply than the first, it is known
+abbrev pub GrowsBy : Known → Catalogue → Catalogue → Type 0
+GrowsBy known c more = (asked : Key) → (replies.get more asked ≡ replies.get c asked) ⊎ IfSome (replies.get more asked) (λ reply. known asked reply)
+
+-- over a catalogue that has more of these keys, this is what a look comes to
+pub record LooksOver {A : Type 0} (known : Known) (is_there : Key → Type 0) (look : Catalogue → Result A Stop) (c : Catalogue)
     (result : Result A Outcome) : Type 0 where
   pub more : Catalogue
-  pub from : IsFrom book base more
+  pub grows : GrowsBy known c more
   pub others : DifferOnlyAt is_there more c
   pub looks : Looks result (look more)
 
@@ -168,6 +204,7 @@ IsOfArchivesEnd (outcome.NoArchive identity release) = Unit {0}
 IsOfArchivesEnd (outcome.ChecksumDiffers identity release said found) = Unit {0}
 IsOfArchivesEnd (outcome.TrustDiffers identity release kept said) = Unit {0}
 IsOfArchivesEnd (outcome.FetchFault asked) = Unit {0}
+IsOfArchivesEnd (outcome.Cancelled by) = Unit {0}
 IsOfArchivesEnd outcome.Memory = Unit {0}
 IsOfArchivesEnd it = ⊥
 
@@ -184,14 +221,13 @@ abbrev pub LacksAll : (Key → Type 0) → Catalogue → Type 0
 LacksAll is_there c = (asked : Key) → is_there asked → replies.get c asked ≡ None
 
 -- from each catalogue that lacks these keys on
-abbrev pub LooksFrom : {A : Type 0} → Option Pages → Base → (Key → Type 0) → (Catalogue → Result A Stop) → Result A Outcome → Type 0
-LooksFrom book base is_there look result =
-    (c : Catalogue) → IsFrom book base c → LacksAll is_there c → LooksOver book base is_there look c result
+abbrev pub LooksFrom : {A : Type 0} → Known → (Key → Type 0) → (Catalogue → Result A Stop) → Result A Outcome → Type 0
+LooksFrom known is_there look result = (c : Catalogue) → LacksAll is_there c → LooksOver known is_there look c result
 
 -- whatever is to be read of the reply of the key, the look ends so
-abbrev pub IsUnanswered : Option Pages → Base → Key → Outcome → Type 0
-IsUnanswered book base asked it = (says : Reply → Result (List ℕ) Outcome)
-    → LooksFrom book base (λ other. other ≡ asked) (λ c. looked_at c asked says) (Err it)
+abbrev pub IsUnanswered : Known → Key → Outcome → Type 0
+IsUnanswered known asked it = (says : Reply → Result (List ℕ) Outcome)
+    → LooksFrom known (λ other. other ≡ asked) (λ c. looked_at c asked says) (Err it)
 
 -- pins in the order of their identities, each once
 abbrev pub ArePinsAscending : List Pin → Type 0

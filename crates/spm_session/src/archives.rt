@@ -16,26 +16,27 @@ ghost use Rattle.spm_session.specs.Archives.{
   release_key,
   sum_in,
 };
+ghost use Rattle.spm_session.specs.Known.{IsWider};
 ghost use Rattle.spm_session.specs.Outcome.{IsNoFault};
 ghost use Rattle.spm_session.specs.Run.{
   ArePinsAscending,
-  FaultsAfterStep,
   Finds,
+  GoesBy,
   IsKeyOf,
   IsKeyOfAny,
   IsOfArchivesEnd,
-  IsOneOf,
   IsUnanswered,
   LooksFrom,
 };
 
 use crate::asking::{fetched, refused};
 use crate::outcome::Outcome;
-use spm_api::{Base, BodyFault, read_release, said};
+use crate::source::Source;
+use spm_api::{BodyFault, read_release, said};
+use spm_cache_core::SharedReply;
 use spm_digest::sum;
 use spm_ident::Identity;
 use spm_key::{Body, Key, Reply};
-use spm_outside::Link;
 use spm_trust::{Met, Trust};
 use spm_version::{Items, NoMemory, Release};
 use std::alloc::Global;
@@ -158,100 +159,102 @@ fn archive_by(
 }
 
 // The reply of a key, where it isn't refused.
-fn answered<L: Link>(alloc: Global, base: &Base, link: &mut L, key: Key) -> Result<Reply, Outcome>
-    ensures comes { IfOk result (λ reply. IsOneOf (L.state link.old).book base.now key reply) }
+fn answered<S: Source>(alloc: Global, source: &mut S, key: Key) -> Result<SharedReply, Outcome>
+    requires { S.ready source.old }
+    ensures ready { S.ready source.new }
+    ensures known { IfOk result (λ reply. S.knows source.new key reply) }
     ensures answered { IfOk result (λ reply. reply_refusal key reply ≡ None) }
-    ensures err { IfErr result (λ it. IsUnanswered (L.state link.old).book base.now key it) }
+    ensures err { IfErr result (λ it. IsUnanswered (S.knows source.new) key it) }
     ensures kind { IfErr result (λ it. IsOfArchivesEnd it) }
-    ensures faults { FaultsAfterStep result (L.state link.old).faults (L.state link.new).faults }
-    ensures book { (L.state link.new).book ≡ (L.state link.old).book }
+    ensures went { GoesBy S.goes S.misses source.old source.new result }
+    ensures wider { IsWider (S.knows source.old) (S.knows source.new) }
 {
-    let (key, reply) = match fetched(alloc, base, link, key) {
+    let (key, reply) = match fetched(alloc, source, key) {
         Ok(found) => found,
         Err(outcome) => return Err(outcome),
     };
-    match said(alloc, &key, &reply) {
+    match said(alloc, &key, reply.reply()) {
         Ok(_) => Ok(reply),
         Err(fault) => Err(refused(key, fault)),
     }
 }
 
 // Looks at the release of a pin: the checksum that it names.
-fn look_at_release<L: Link>(
-    alloc: Global,
-    pin: &Pin,
-    base: &Base,
-    link: &mut L,
-) -> Result<[u8; 32], Outcome>
-    ensures looks { LooksFrom (L.state link.old).book base.now (λ asked. asked ≡ release_key pin.now)
+fn look_at_release<S: Source>(alloc: Global, pin: &Pin, source: &mut S) -> Result<[u8; 32], Outcome>
+    requires { S.ready source.old }
+    ensures ready { S.ready source.new }
+    ensures looks { LooksFrom (S.knows source.new) (λ asked. asked ≡ release_key pin.now)
         (λ c. looked_at c (release_key pin.now) (checksum_by pin.now)) result }
     ensures kind { IfErr result (λ it. IsOfArchivesEnd it) }
-    ensures faults { FaultsAfterStep result (L.state link.old).faults (L.state link.new).faults }
-    ensures book { (L.state link.new).book ≡ (L.state link.old).book }
+    ensures went { GoesBy S.goes S.misses source.old source.new result }
+    ensures wider { IsWider (S.knows source.old) (S.knows source.new) }
 {
-    match answered(alloc, base, link, release_key(alloc, pin)?) {
-        Ok(reply) => checksum_by(alloc, pin, &reply),
+    match answered(alloc, source, release_key(alloc, pin)?) {
+        Ok(reply) => checksum_by(alloc, pin, reply.reply()),
         Err(outcome) => Err(outcome),
     }
 }
 
 // Looks at the archive of a pin, whose release names this checksum.
-fn look_at_archive<L: Link>(
+fn look_at_archive<S: Source>(
     alloc: Global,
     trust: &Trust,
     pin: &Pin,
     checksum: [u8; 32],
-    base: &Base,
-    link: &mut L,
+    source: &mut S,
 ) -> Result<[u8; 32], Outcome>
-    ensures looks { LooksFrom (L.state link.old).book base.now (λ asked. asked ≡ archive_key pin.now)
+    requires { S.ready source.old }
+    ensures ready { S.ready source.new }
+    ensures looks { LooksFrom (S.knows source.new) (λ asked. asked ≡ archive_key pin.now)
         (λ c. looked_at c (archive_key pin.now) (archive_by trust.now pin.now checksum)) result }
     ensures kind { IfErr result (λ it. IsOfArchivesEnd it) }
-    ensures faults { FaultsAfterStep result (L.state link.old).faults (L.state link.new).faults }
-    ensures book { (L.state link.new).book ≡ (L.state link.old).book }
+    ensures went { GoesBy S.goes S.misses source.old source.new result }
+    ensures wider { IsWider (S.knows source.old) (S.knows source.new) }
 {
-    match answered(alloc, base, link, archive_key(alloc, pin)?) {
-        Ok(reply) => archive_by(alloc, trust, pin, checksum, &reply),
+    match answered(alloc, source, archive_key(alloc, pin)?) {
+        Ok(reply) => archive_by(alloc, trust, pin, checksum, reply.reply()),
         Err(outcome) => Err(outcome),
     }
 }
 
 // Looks at the release and then at the archive of a pin: the archive's sum.
-fn look_at_pin<L: Link>(
+fn look_at_pin<S: Source>(
     alloc: Global,
     trust: &Trust,
     pin: &Pin,
-    base: &Base,
-    link: &mut L,
+    source: &mut S,
 ) -> Result<[u8; 32], Outcome>
-    ensures looks { LooksFrom (L.state link.old).book base.now (IsKeyOf pin.now) (λ c. pin_looked trust.now c pin.now) result }
+    requires { S.ready source.old }
+    ensures ready { S.ready source.new }
+    ensures looks { LooksFrom (S.knows source.new) (IsKeyOf pin.now) (λ c. pin_looked trust.now c pin.now) result }
     ensures kind { IfErr result (λ it. IsOfArchivesEnd it) }
-    ensures faults { FaultsAfterStep result (L.state link.old).faults (L.state link.new).faults }
-    ensures book { (L.state link.new).book ≡ (L.state link.old).book }
+    ensures went { GoesBy S.goes S.misses source.old source.new result }
+    ensures wider { IsWider (S.knows source.old) (S.knows source.new) }
 {
-    match look_at_release(alloc, pin, base, link) {
-        Ok(checksum) => look_at_archive(alloc, trust, pin, checksum, base, link),
+    match look_at_release(alloc, pin, source) {
+        Ok(checksum) => look_at_archive(alloc, trust, pin, checksum, source),
         Err(outcome) => Err(outcome),
     }
 }
 
 /// Looks at the archives of pins that ascend by their identities, one after the other: the sums of the archives.
-pub(crate) fn look_at_pins<L: Link>(
+pub(crate) fn look_at_pins<S: Source>(
     alloc: Global,
     trust: &Trust,
     pins: &[(Identity, Release)],
-    base: &Base,
-    link: &mut L,
+    source: &mut S,
 ) -> Result<Items<[u8; 32]>, Outcome>
+    requires { S.ready source.old }
+    ensures ready { S.ready source.new }
     ensures looks { ArePinsAscending pins.now
-        → LooksFrom (L.state link.old).book base.now (IsKeyOfAny pins.now) (λ c. pins_looked trust.now c pins.now) result }
+        → LooksFrom (S.knows source.new) (IsKeyOfAny pins.now) (λ c. pins_looked trust.now c pins.now) result }
     ensures kind { IfErr result (λ it. IsOfArchivesEnd it) }
-    ensures faults { FaultsAfterStep result (L.state link.old).faults (L.state link.new).faults }
-    ensures book { (L.state link.new).book ≡ (L.state link.old).book }
+    ensures went { GoesBy S.goes S.misses source.old source.new result }
+    ensures wider { IsWider (S.knows source.old) (S.knows source.new) }
 {
     let mut sums = Items::new(alloc);
     for pin in pins {
-        match look_at_pin(alloc, trust, pin, base, link) {
+        match look_at_pin(alloc, trust, pin, source) {
             Ok(sum) => sums.push(sum)?,
             Err(outcome) => return Err(outcome),
         }

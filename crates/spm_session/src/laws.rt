@@ -7,9 +7,10 @@ ghost use Rattle.pub_plain.specs.Answers.{Answers, AreShort, Carries, answers_of
 ghost use Rattle.pub_plain.specs.Choosing.{Pins};
 ghost use Rattle.pub_proof.specs.declared.derivation.Derivation.{Derivation};
 ghost use Rattle.pub_term.specs.declared.cause.Cause.{Cause};
-ghost use Rattle.spm_key.specs.Catalogue.{Catalogue};
+ghost use Rattle.spm_key.specs.Catalogue.{Catalogue, Extends};
 ghost use Rattle.spm_session.specs.Archives.{AreRight, Fingerprints};
-ghost use Rattle.spm_session.specs.Outcome.{IsRefuted, IsResolved, IsSelected};
+ghost use Rattle.spm_session.specs.Outcome.{IsReadyOutcome, IsRefuted, IsResolved, IsSelected};
+ghost use Rattle.spm_session.specs.declared.outcome.Outcome.{Outcome};
 
 /// A law, with nothing to run: where a root is refuted over a catalogue of replies, it has no valid selection, whatever else a registry may
 /// say that says the same of the keys of the catalogue.
@@ -17,6 +18,12 @@ pub fn a_refuted_root_has_no_selection()
     ensures { (same : Cause → Cause → Bool) (job : Job) (pins : Pins) (c : Catalogue) (found : Derivation) (texts : List (List (List ℕ))) (turns : ℕ)
         → IsRefuted same job pins c found texts turns → (more : Answers) → Carries (answers_of c) more → AreShort more
         → (selection : Selection) → IsValid job (catalogue_by more) selection → ⊥ }
+{}
+
+/// A law, with nothing to run: what a root comes to over a catalogue of replies it comes to over each catalogue that extends it.
+pub fn outcomes_stay()
+    ensures { (same : Cause → Cause → Bool) (job : Job) (fingerprints : Fingerprints) (pins : Pins) (c more : Catalogue) (it : Outcome)
+        → Extends more c → IsReadyOutcome same job fingerprints pins c it → IsReadyOutcome same job fingerprints pins more it }
 {}
 
 /// A law, with nothing to run: a root that was resolved over a catalogue of replies, resolved again over it with the pins that it got, gets the

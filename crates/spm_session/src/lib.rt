@@ -20,6 +20,7 @@
 //! was right of a pin stays right (`proofs/ArchiveLemmas`, `PinsLemmas`).
 #![tactic(auto)]
 
+mod alone;
 mod archives;
 mod asking;
 mod job;
@@ -27,12 +28,14 @@ mod laws;
 mod outcome;
 mod run;
 mod shared;
+mod source;
 
 pub use asking::refused;
 pub use job::{RootInput, RootJob};
 pub use laws::{
-    a_refuted_root_has_no_selection, resolving_again_keeps_the_pins,
+    a_refuted_root_has_no_selection, outcomes_stay, resolving_again_keeps_the_pins,
     the_archives_of_a_resolved_root_are_right,
 };
 pub use outcome::Outcome;
 pub use run::run_alone;
+pub use source::{Missed, Source};

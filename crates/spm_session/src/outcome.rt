@@ -50,6 +50,8 @@ pub enum Outcome {
     TrustDiffers(Identity, Release, [u8; 32], [u8; 32]),
     /// The link failed at this key.
     FetchFault(Key),
+    /// The session with this number gave up, and told the others.
+    Cancelled(u32),
     /// The get or put of this file failed.
     DeskFault(Text),
     /// Want of memory.

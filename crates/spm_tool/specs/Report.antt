@@ -1,5 +1,5 @@
 -- The lines that a run writes, and its exit status: functions of the ending.
-use Rattle.std.specs.Prelude.{◌≡◌, ℕ, ◌==◌, List, [], ◌∷◌, ◌++◌, length, map, All, codes, Option, Some, None, Result, Ok, Err, ⊤, if◌then◌else◌}
+use Rattle.std.specs.Prelude.{◌≡◌, ℕ, ◌+◌, ◌==◌, List, [], ◌∷◌, ◌++◌, length, map, All, codes, Option, Some, None, Result, Ok, Err, ⊤, if◌then◌else◌}
 use Rattle.std.specs.Fmt.{decimal}
 use Rattle.std.specs.List.{filter, list_any}
 use Rattle.pub_trail.specs.declared.turned.Wide.{Wide}
@@ -61,6 +61,10 @@ checksum_text said found = codes "checksum " ++ (encode_lower said ++ (codes ", 
 abbrev pub fingerprint_text : List ℕ → List ℕ → List ℕ
 fingerprint_text kept said = codes "fingerprint " ++ (encode_lower kept ++ (codes ", registry says " ++ encode_lower said))
 
+-- the root that gave up, counted from 1
+abbrev pub cancelled_line : ℕ → List ℕ
+cancelled_line by = codes "cancelled by root " ++ decimal (by + 1)
+
 abbrev pub outcome_text : Outcome → List ℕ
 outcome_text (outcome.Resolved pins sums turns) = resolved_line (length pins) turns
 outcome_text (outcome.Refuted derivation choices turns) = codes "no selection in " ++ (decimal turns ++ codes " turns")
@@ -79,6 +83,7 @@ outcome_text (outcome.ChecksumDiffers identity release said found) = pin_line id
 outcome_text (outcome.TrustDiffers identity release kept said) = pin_line identity release (fingerprint_text kept said)
 outcome_text (outcome.FetchFault asked) = key_text asked ++ codes ": fetch failed"
 outcome_text (outcome.DeskFault name) = fault_text name
+outcome_text (outcome.Cancelled by) = cancelled_line by
 outcome_text outcome.Memory = codes "no memory"
 
 -- the lines behind it: the derivation of a refutation
@@ -120,7 +125,7 @@ fingerprints_report name it = []
 
 -- ---- statuses
 
--- a refusal is 3
+-- a refusal is 3; 7 stands for none, of a root that another one cancelled
 abbrev pub outcome_status : Outcome → ℕ
 outcome_status (outcome.Resolved pins sums turns) = 0
 outcome_status (outcome.Refuted derivation choices turns) = 1
@@ -129,6 +134,7 @@ outcome_status (outcome.TrustDiffers identity release kept said) = 5
 outcome_status (outcome.FetchFault asked) = 4
 outcome_status (outcome.DeskFault name) = 4
 outcome_status outcome.Memory = 6
+outcome_status (outcome.Cancelled by) = 7
 outcome_status other = 3
 
 abbrev pub put_status : PutEnding → ℕ
@@ -158,6 +164,7 @@ summary_of given = record {
   refused = counted 3 given;
   faulty = counted 4 given;
   differing = counted 5 given;
+  cancelled = counted 7 given;
   memory = counted 6 given;
 }
 
@@ -170,7 +177,7 @@ answered_text summary =
 abbrev pub summary_text : Summary → List ℕ
 summary_text summary =
     answered_text summary ++ (codes ", faulty " ++ (decimal summary.faulty ++ (codes ", differing " ++ (decimal summary.differing
-    ++ (codes ", cancelled 0, memory " ++ (decimal summary.memory ++ line_end))))))
+    ++ (codes ", cancelled " ++ (decimal summary.cancelled ++ (codes ", memory " ++ (decimal summary.memory ++ line_end))))))))
 
 -- ---- the report
 

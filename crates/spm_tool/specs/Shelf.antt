@@ -6,6 +6,7 @@ use Rattle.spm_outside.specs.Book.{Pages}
 use Rattle.spm_server.specs.Pages.{AnswersAskable, RefusesOthers, not_found}
 use Rattle.spm_server.specs.RoundTrip.{IsPlainBase}
 use Rattle.spm_session.specs.Archives.{Fingerprints}
+use Rattle.spm_session.specs.Known.{in_book}
 use Rattle.spm_session.specs.Run.{IsEnd}
 use Rattle.spm_session.specs.declared.job.RootJob.{RootJob}
 use Rattle.spm_session.specs.declared.outcome.Outcome.{Outcome}
@@ -24,7 +25,7 @@ pub record IsOnShelf (same : Cause → Cause → Bool) (shelf : ShelfFile) (fing
   pub base : Base
   pub pages : Pages
   pub book : IsBookOf shelf base pages
-  pub end : IsEnd same (Some pages) base fingerprints job it
+  pub end : IsEnd same (in_book (Some pages) base) fingerprints job it
 
 -- or want of memory
 abbrev pub IsShelfOutcome : (Cause → Cause → Bool) → ShelfFile → Fingerprints → RootJob → Outcome → Type 0

@@ -7,6 +7,7 @@ ghost use Rattle.spm_tool.specs.Report.{
   IsTellable,
   all_ended,
   answered_text,
+  cancelled_line,
   checksum_text,
   counted,
   ended_by,
@@ -170,6 +171,14 @@ fn fingerprint_line(
     pin_line(alloc, identity, release, what.as_str())
 }
 
+// The root that gave up, counted from 1.
+fn cancelled_line(alloc: Global, by: u32) -> Result<String, NoMemory>
+    ensures { IfOk result (λ text. string_bytes text ≡ cancelled_line by) }
+{
+    let number = u64::from(by) + 1;
+    format!(in alloc; "cancelled by root {number}")
+}
+
 // What a root's line says of an unreadable file.
 fn unreadable_file(alloc: Global, file: &str, place: &Text, kind: Kind) -> Result<String, NoMemory>
     ensures { IfOk result (λ text. string_bytes text ≡ file.now ++ (codes " is " ++ unreadable_text place.now kind)) }
@@ -220,6 +229,7 @@ pub fn outcome_text(alloc: Global, outcome: &Outcome) -> Result<String, NoMemory
         }
         Outcome::FetchFault(key) => key_line(alloc, key, "fetch failed"),
         Outcome::DeskFault(name) => fault_text(alloc, name.as_str()),
+        Outcome::Cancelled(by) => cancelled_line(alloc, *by),
         Outcome::Memory => Ok(String::from_str(alloc, "no memory")?),
     }
 }
@@ -353,6 +363,7 @@ struct Summary {
     refused: usize,
     faulty: usize,
     differing: usize,
+    cancelled: usize,
     memory: usize,
 }
 
@@ -367,6 +378,7 @@ fn summary_of(given: &[u8]) -> Summary
         refused: counted(3, given),
         faulty: counted(4, given),
         differing: counted(5, given),
+        cancelled: counted(7, given),
         memory: counted(6, given),
     }
 }
@@ -393,11 +405,12 @@ fn summary_text(alloc: Global, summary: Summary) -> Result<String, NoMemory>
     let Summary {
         faulty,
         differing,
+        cancelled,
         memory,
         ..
     } = summary;
     format!(in alloc;
-        "{answered}, faulty {faulty}, differing {differing}, cancelled 0, memory {memory}\n"
+        "{answered}, faulty {faulty}, differing {differing}, cancelled {cancelled}, memory {memory}\n"
     )
 }
 

@@ -7,7 +7,7 @@ use crate::ending::{FileEnding, PutEnding};
 use spm_outside::SinkFault;
 use spm_session::Outcome;
 
-// The status of an outcome: a refusal is 3.
+// The status of an outcome: a refusal is 3. 7 stands for none.
 pub fn outcome_status(outcome: &Outcome) -> u8
     ensures { result ≡ outcome_status outcome.now }
 {
@@ -17,6 +17,7 @@ pub fn outcome_status(outcome: &Outcome) -> u8
         Outcome::ChecksumDiffers(_, _, _, _) | Outcome::TrustDiffers(_, _, _, _) => 5,
         Outcome::FetchFault(_) | Outcome::DeskFault(_) => 4,
         Outcome::Memory => 6,
+        Outcome::Cancelled(_) => 7,
         _ => 3,
     }
 }

@@ -1,5 +1,5 @@
-use Rattle.std.proofs.Common.{sym, ◌∙◌, subst}
-use Rattle.spm_session.specs.Run.{IsRun}
+use Rattle.std.proofs.Common.{◌∙◌}
+use Rattle.spm_session.proofs.SourceLemmas.{then_ends}
 use Rattle.spm_session.proofs.run.turn_on.Goals as goal
 
 -- src/run.rt
@@ -8,11 +8,20 @@ loop-outcome-preserved g c =
     let kept = c.in_default.ensures in
     let before = c.loop-outcome.invariant in
     record {
-      run = subst (λ book. IsRun book c.args.base.now c.step.new.plain) (sym kept.book) (kept.run before.run);
+      ready = kept.ready;
+      run = kept.run before.run;
       job = (kept.job.0 ∙ before.job.0, kept.job.1 ∙ before.job.1);
-      book = kept.book ∙ before.book;
-      faults = kept.faults ∙ before.faults;
+      goes = g.S.Source.onward _ _ _ before.goes kept.went;
     }
 
 pub loop-outcome-smaller : goal.loop-outcome-smaller
 loop-outcome-smaller g c = c.in_default.ensures.falls c.loop-outcome.invariant.run
+
+pub returns-in-Err-clause-went : goal.returns-in-Err-clause-went
+returns-in-Err-clause-went g c =
+    then_ends g.S.Source.goes g.S.Source.misses _ _ _ (g.S.Source.onward _ _ _) (λ asked why. g.S.Source.then_misses _ _ _ asked why)
+    c.in-Err.outcome c.loop-outcome.invariant.goes c.in-Err.ensures.went
+
+pub returns-in-Err-clause-wider : goal.returns-in-Err-clause-wider
+returns-in-Err-clause-wider g c = λ asked reply has.
+    c.step.ensures.wider asked reply (g.S.Source.keeps _ _ c.loop-outcome.invariant.goes asked reply has)

@@ -3,13 +3,13 @@ use Rattle.pub_plain.specs.Ending.{steps_left}
 use Rattle.spm_session.specs.Run.{IsRun}
 use Rattle.spm_session.proofs.run.turn_on.Given as goal
 
--- the run goes on, over the same book and without a fault
+-- the run goes on, and the source had each reply
 abbrev pub invariant-loop-outcome : goal.invariant-loop-outcome
 invariant-loop-outcome g l = record {
-  run : IsRun (g.L.Link.state l.link).book l.base l.plain;
+  ready : g.S.Source.ready l.source;
+  run : IsRun (g.S.Source.knows l.source) l.plain;
   job : (l.plain.job ≡ l.fn.plain.job) × (l.plain.pins ≡ l.fn.plain.pins);
-  book : (g.L.Link.state l.link).book ≡ (g.L.Link.state l.initial.link).book;
-  faults : (g.L.Link.state l.link).faults ≡ (g.L.Link.state l.initial.link).faults;
+  goes : g.S.Source.goes l.initial.source l.source;
 }
 
 -- it comes to its end

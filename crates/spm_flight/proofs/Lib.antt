@@ -1,0 +1,2 @@
+pub mod FlownLemmas
+pub mod WorkLemmas
