@@ -22,12 +22,13 @@ fn told_over(alloc: Global, link: &mut impl Link, port: u16, asked: &str) -> Opt
     told_reply(alloc, &fetch(alloc, link, &base, &key(alloc, asked)?).ok()?)
 }
 
-// A thread serves one connection, and a link asks for one key of the same shelf.
+// A thread serves one connection, and a link asks for one key of the same shelf. The port is below those that systems give to
+// connections that go out, and is another in each process.
 #[test]
 fn a_reply_comes_over_sockets(rt: HostRuntime) {
     let alloc = rt.alloc();
     let shelf = shelf(alloc).expect(&rt, "a shelf");
-    let port = 20000 + (process::id(rt.process()) % 20000) as u16;
+    let port = 20000 + (process::id(rt.process()) % 12000) as u16;
     let mut door = TcpDoor::new(rt);
     assert!(&rt; door.bind(port).is_ok());
     let mut link = WireLink::new(rt);

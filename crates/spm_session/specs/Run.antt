@@ -117,7 +117,7 @@ WentOfJob goes misses (input.Ready manifest origin pins) old new it = EndsBy goe
 
 -- ---- of a link
 
--- the link's count of faults rises where a fetch failed, and stays else; nobody gives up before
+-- the link's count of faults rises where a fetch failed, and stays else; who resolves alone is told of nobody who gave up
 abbrev pub FaultsBy : Outcome → ℕ → ℕ → Type 0
 FaultsBy (outcome.FetchFault asked) old new = Rises old new
 FaultsBy (outcome.Cancelled by) old new = ⊥
