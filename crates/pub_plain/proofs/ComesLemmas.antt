@@ -1,12 +1,11 @@
 -- What is said of more keys changes nothing of what a solver comes to: its pins, its derivation, and the texts of its choices.
-use Rattle.std.proofs.Common.{◌≡◌, ℕ, suc, ◌<◌, Bool, List, [], ◌∷◌, map, All, Option, Some, None, refl, sym, ap, ap₂, ◌∙◌, subst, arith}
+use Rattle.std.proofs.Common.{◌≡◌, ℕ, suc, Bool, List, [], ◌∷◌, map, All, Option, Some, refl, ap, ap₂, arith}
 use Rattle.std.specs.Prelude.{codes, option_map}
 use Rattle.std.specs.List.{cons_option, filter_map}
 use Rattle.std.specs.Ordering.{is_lt}
 use Rattle.std.proofs.lemmas.Bool.{cond_both}
 use Rattle.std.proofs.lemmas.List.Elements.{All-cons, All-nil}
-use Rattle.pub_facts.specs.Catalogue.{Lookups, release_at}
-use Rattle.pub_facts.specs.Facts.{size_of}
+use Rattle.pub_facts.specs.Catalogue.{release_at}
 use Rattle.pub_facts.specs.Numbered.{number_in}
 use Rattle.pub_term.specs.Node.{node_cmp}
 use Rattle.pub_term.specs.declared.cause.Cause.{Cause}

@@ -8,7 +8,7 @@ use Rattle.pub_set.specs.Choices.{ChoiceSet, has}
 use Rattle.pub_facts.specs.Assigns.{Agrees, IsAssignment, IsOwn}
 use Rattle.pub_facts.specs.Catalogue.{Catalogue, Job, Lookups, Owner, contents_at, version_in}
 use Rattle.pub_facts.specs.Facts as fact_of
-use Rattle.pub_facts.specs.Facts.{Load, behind, clauses_of, clauses_with, fact, facts_of, found_at, owner_node, size_of, subject_of, subject_terms, trouble, under_names}
+use Rattle.pub_facts.specs.Facts.{Load, behind, clauses_of, clauses_with, fact, facts_of, found_at, owner_node, subject_of, subject_terms, trouble, under_names}
 use Rattle.pub_facts.specs.Known.{IsThere}
 use Rattle.pub_facts.specs.Numbered.{incompat_of, number_in}
 use Rattle.pub_facts.specs.declared.fact.Fact.{Fact}

@@ -11,7 +11,7 @@ use Rattle.pub_term.specs.declared.cause.Cause.{Cause}
 use Rattle.pub_term.specs.declared.term.Incompat.{Incompat}
 use Rattle.pub_term.specs.declared.node.NodeName.{NodeName}
 use Rattle.pub_term.specs.declared.term.Term.{Term}
-use Rattle.pub_trail.specs.Derived.{AreBelow, IsChain, IsHistory, Put, Says, put_steps, write}
+use Rattle.pub_trail.specs.Derived.{AreBelow, IsChain, Put, Says, put_steps, write}
 use Rattle.pub_trail.specs.Derived as derived
 use Rattle.pub_trail.specs.Invariant.{IsState}
 use Rattle.pub_trail.specs.KnownOf.{IsEntry}

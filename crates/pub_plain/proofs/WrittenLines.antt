@@ -7,7 +7,7 @@ use Rattle.std.proofs.lemmas.List.{length-map, length-reverse, map-append, rever
 use Rattle.std.proofs.lemmas.List.Elements.{Contains-append_left, Contains-append_right}
 use Rattle.std.proofs.lemmas.Option.{slice_get_within}
 use Rattle.pub_facts.proofs.Members.{contains_head}
-use Rattle.pub_proof.specs.Checked.{◌>>=◌, LineFault, can_resolve, checked_of, earlier_line, fact_in, has_node, last_in, lines_after, meets_in, resolved_in}
+use Rattle.pub_proof.specs.Checked.{◌>>=◌, can_resolve, checked_of, earlier_line, fact_in, has_node, last_in, lines_after, meets_in, resolved_in}
 use Rattle.pub_proof.specs.Checked as checked
 use Rattle.pub_proof.specs.Checks.{own_facts}
 use Rattle.pub_proof.specs.Formed as proved
@@ -24,7 +24,7 @@ use Rattle.pub_term.specs.Term.{AreNodesAscending, AreProper, set_at}
 use Rattle.pub_term.specs.declared.node.NodeName.{NodeName}
 use Rattle.pub_term.specs.declared.term.Term.{Term}
 use Rattle.pub_term.proofs.AboveLemmas.{set_at-place}
-use Rattle.pub_trail.specs.Derived.{AreLines, IsEnd, IsLine, IsResolution, Given, Resolves, Put, Says, said}
+use Rattle.pub_trail.specs.Derived.{AreLines, IsEnd, IsLine, Given, Resolves, Put, Says, said}
 use Rattle.pub_trail.specs.Derived as derived
 use Rattle.pub_trail.specs.Invariant.{AreSized, IsFormed}
 use Rattle.pub_trail.specs.Renamed.{IsNumbering, insert_term, renamed}

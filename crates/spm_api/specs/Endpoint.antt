@@ -1,6 +1,6 @@
 -- The endpoints of a registry: the request for a key, and the reply that a response is (SE-0292 and the registry's service
 -- specification).
-use Rattle.std.specs.Prelude.{◌≡◌, ℕ, ◌==◌, List, ◌++◌, length, codes, Ok, if◌then◌else◌}
+use Rattle.std.specs.Prelude.{◌≡◌, ℕ, ◌==◌, List, ◌++◌, length, codes, Option, IfSome, Ok, if◌then◌else◌}
 use Rattle.std.specs.Fmt.{decimal}
 use Rattle.spm_digest.specs.Digest.{sha256}
 use Rattle.spm_http.specs.Response.{Hears}
@@ -12,6 +12,7 @@ use Rattle.spm_key.specs.declared.key.Key.{Key}
 use Rattle.spm_key.specs.declared.key.Key.TheVariants as key
 use Rattle.spm_key.specs.declared.reply.Body.TheVariants.{Whole, Sum, Garbled, TooLong}
 use Rattle.spm_key.specs.declared.reply.Reply.{Reply}
+use Rattle.spm_outside.specs.Book.{Pages, response_of}
 use Rattle.spm_outside.specs.declared.book.Authority.{Authority}
 use Rattle.spm_api.specs.declared.base.Base.{Base}
 
@@ -68,3 +69,7 @@ pub record IsReply (key : Key) (response : List ℕ) (reply : Reply) : Type 0 wh
   pub what : Heard
   pub hears : Hears (Ok what) (limit_for key) response
   pub is : reply ≡ heard_reply key what
+
+-- the reply is that of the book's response to the request for the key, where the book is told
+abbrev pub IsBookReply : Base → Option Pages → Key → Reply → Type 0
+IsBookReply base book key reply = IfSome book (λ pages. IsReply key (response_of pages base.to (request_for base key)) reply)

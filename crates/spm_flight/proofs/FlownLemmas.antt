@@ -1,6 +1,6 @@
 -- What an exchange leaves of the link, by its answer.
 use Rattle.std.proofs.Common.{◌≡◌, false, Err, inr, sym, subst}
-use Rattle.spm_api.specs.Endpoint.{request_for}
+use Rattle.spm_api.specs.Endpoint.{IsBookReply, request_for}
 use Rattle.spm_api.specs.declared.base.Base.{Base}
 use Rattle.spm_key.specs.declared.key.Key.{Key}
 use Rattle.spm_key.specs.declared.reply.Reply.{Reply}
@@ -9,7 +9,7 @@ use Rattle.spm_outside.specs.Faults.{FaultsAfter}
 use Rattle.spm_outside.specs.Link.{LinkState}
 use Rattle.spm_outside.specs.declared.fault.CallFault.{CallFault}
 use Rattle.spm_outside.specs.declared.fault.CallFault.TheVariants as fault
-use Rattle.spm_flight.specs.Work.{IsBookReply, LeavesLanded, Obtains}
+use Rattle.spm_flight.specs.Work.{LeavesLanded, Obtains}
 
 module _ (base : Base) (key : Key) (old new : LinkState) (book : new.book ≡ old.book) where
   -- where the fetch failed

@@ -1,7 +1,7 @@
 -- What an actor does: the events that it makes in the cache, and what they leave of its link.
 use Rattle.std.specs.FinMap as map
-use Rattle.std.specs.Prelude.{◌≡◌, ◌⊎◌, false, true, List, [], ◌∷◌, Option, Some, IfSome, Result, Ok, Err}
-use Rattle.spm_api.specs.Endpoint.{IsReply, request_for}
+use Rattle.std.specs.Prelude.{◌≡◌, ◌⊎◌, false, true, List, [], ◌∷◌, Some, Result, Ok, Err}
+use Rattle.spm_api.specs.Endpoint.{IsBookReply, request_for}
 use Rattle.spm_api.specs.declared.base.Base.{Base}
 use Rattle.spm_cache.specs.Passing.{Passing}
 use Rattle.spm_cache.specs.Work.{Steps}
@@ -12,9 +12,9 @@ use Rattle.spm_cache_core.specs.declared.event.Act.TheVariants.{Fail, Land}
 use Rattle.spm_cache_core.specs.declared.event.Event.{Event}
 use Rattle.spm_cache_core.specs.declared.event.Why.{Why}
 use Rattle.spm_cache_core.specs.declared.event.Why.TheVariants as why
+use Rattle.spm_key.specs.Key.{IsKey}
 use Rattle.spm_key.specs.declared.key.Key.{Key}
 use Rattle.spm_key.specs.declared.reply.Reply.{Reply}
-use Rattle.spm_outside.specs.Book.{Pages, response_of}
 use Rattle.spm_outside.specs.Exchange.{with_call}
 use Rattle.spm_outside.specs.Faults.{Rises}
 use Rattle.spm_outside.specs.Link.{LinkState}
@@ -24,10 +24,6 @@ use Rattle.spm_flight.specs.declared.flight.Flown.{Flown}
 use Rattle.spm_flight.specs.declared.flight.Flown.TheVariants as flown
 
 -- ---- what a flight leaves of the link
-
--- the reply is that of the book's response to the request for the key, where the book is told
-abbrev pub IsBookReply : Base → Option Pages → Key → Reply → Type 0
-IsBookReply base book key reply = IfSome book (λ pages. IsReply key (response_of pages base.to (request_for base key)) reply)
 
 -- a reply that landed: one call for the key, which did not fail
 pub record LeavesLanded (base : Base) (key : Key) (reply : Reply) (old new : LinkState) : Type 0 where
@@ -52,10 +48,10 @@ abbrev pub LeavesFailed : Base → Key → Why → LinkState → LinkState → T
 LeavesFailed base key why.Link old new = LeavesBroken base key old new
 LeavesFailed base key why.Memory old new = LeavesLacking base key old new
 
--- what an act leaves of its actor's link: the ends of flights use it, and nothing else does
+-- what an act leaves of its actor's link: the ends of flights use it, and nothing else does; what flies is a key that can be
 abbrev pub Leaves : Base → Act → LinkState → LinkState → Type 0
-Leaves base (Land key reply) old new = LeavesLanded base key reply old new
-Leaves base (Fail key reason) old new = LeavesFailed base key reason old new
+Leaves base (Land key reply) old new = IsKey key × LeavesLanded base key reply old new
+Leaves base (Fail key reason) old new = IsKey key × LeavesFailed base key reason old new
 Leaves base act old new = new ≡ old
 
 -- what events leave of their actor's link, one after the other

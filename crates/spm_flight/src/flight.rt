@@ -3,6 +3,7 @@ ghost use Rattle.std.specs.Prelude.{◌≡◌, IfOk, [], ◌∷◌};
 ghost use Rattle.spm_cache.specs.Work.{Keeps};
 ghost use Rattle.spm_cache_core.specs.Legal.{IsFlight};
 ghost use Rattle.spm_flight.specs.Work.{Does, FlownKnows, Obtains, flown_event};
+ghost use Rattle.spm_key.specs.Key.{IsKey};
 
 use spm_api::{Base, fetch};
 use spm_cache::{Cache, Pass};
@@ -51,8 +52,10 @@ fn obtain<L: Link, G: Gate, R>(
 ) -> Result<(SharedReply, SharedReply), LinkFault>
     ensures leaves { Obtains run.now.base.now ticket.now.key result (L.state link.old) (L.state link.new) }
     ensures same { IfOk result (λ replies. replies.0 ≡ replies.1) }
+    ensures form { IsKey ticket.now.key }
 {
     let (actor, key) = (ticket.actor(), ticket.key());
+    key.is_key();
     let text = key.text(alloc)?;
     run.gate.before(actor, text.as_str());
     let fetched = fetch(alloc, link, run.base, key);

@@ -1,6 +1,6 @@
 /// A gate that an actor passes before and after it works on a key, so that a test can order what happens at once.
 /// It promises nothing: what the actors do holds whatever it does.
-pub trait Gate: Sync {
+pub trait Gate {
     /// The actor is about to work on the key.
     fn before(&self, actor: u32, key: &str);
 

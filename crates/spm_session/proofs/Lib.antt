@@ -5,3 +5,5 @@ pub mod SelectedLemmas
 pub mod SourceLemmas
 pub mod StayLemmas
 pub mod RightLemmas
+pub mod SharingLemmas
+pub mod SessionLemmas

@@ -1,6 +1,9 @@
-pub mod Archives
-pub mod Outcome
 pub mod Known
 pub mod Run
 pub mod Alone
 pub mod AloneLaws
+pub mod Archives
+pub mod Outcome
+pub mod Sharing
+pub mod SharingLaws
+pub mod Session

@@ -1,0 +1,12 @@
+pub mod LinkLemmas
+pub mod MeetLemmas
+pub mod QuietLemmas
+pub mod PartLemmas
+pub mod StageLemmas
+pub mod BookLemmas
+pub mod CallLemmas
+pub mod LackLemmas
+pub mod FewLemmas
+pub mod EndLemmas
+pub mod WholeLemmas
+pub mod PlayLemmas

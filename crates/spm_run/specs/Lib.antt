@@ -1,0 +1,5 @@
+pub mod Run
+pub mod Actors
+pub mod Links
+pub mod Stage
+pub mod Calls
